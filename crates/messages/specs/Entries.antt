@@ -1,0 +1,43 @@
+-- Lent entries: tunings, note changes and bank maps as numbers of 64 bits, one place each. Every number is some entry.
+use mathlib.Core.Bool.{Bool, true, false}
+use Prim.Native.Nat.{ℕ, _+_, _*_, _/_, _%_, _^_}
+use lib.Dec.{ltb}
+use Rattle.messages.specs.declared.tuning.MaybeTuning.{MaybeTuning}
+use Rattle.messages.specs.declared.tuning.MaybeTuning.the-variants.{NoTuning, Tuned}
+use Rattle.messages.specs.declared.tuning.KeyTuning.{KeyTuning}
+use Rattle.messages.specs.declared.«file_reference».SoundFileMap.{SoundFileMap}
+use Rattle.messages.specs.Refusals.{pick}
+use Rattle.messages.specs.Fields.{bit, is-set}
+
+-- semitone × 65,536 + fraction; 2^24 for no tuning
+abbrev pub tuning-entry : MaybeTuning → ℕ
+tuning-entry NoTuning = 2 ^ 24
+tuning-entry (Tuned t) = t .semitone * 65536 + t .fraction
+
+-- from 2^24 on: no tuning
+abbrev pub tuning-of : ℕ → MaybeTuning
+tuning-of n = pick (ltb n (2 ^ 24)) (Tuned (record { semitone = n / 65536; fraction = n % 65536 })) NoTuning
+
+-- key × 2^25 + tuning
+abbrev pub change-entry : KeyTuning → ℕ
+change-entry c = c .key * 2 ^ 25 + tuning-entry (c .tuning)
+
+abbrev pub change-of : ℕ → KeyTuning
+change-of n = record { key = n / 2 ^ 25; tuning = tuning-of (n % 2 ^ 25) }
+
+-- target bank (above bit 42), target program, source bank, source program, source drum, target drum, volume (8 bits)
+abbrev pub map-entry : SoundFileMap → ℕ
+map-entry m =
+    (((((m .«dst_bank» * 256 + m .«dst_prog») * 65536 + m .«src_bank») * 256 + m .«src_prog») * 2 + bit (m .«src_drum»)) * 2 + bit (m .«dst_drum»)) * 256 + m .volume
+
+abbrev pub map-of : ℕ → SoundFileMap
+map-of n =
+    record {
+      «dst_bank» = n / 2 ^ 42;
+      «dst_prog» = n / 2 ^ 34 % 256;
+      «src_bank» = n / 2 ^ 18 % 65536;
+      «src_prog» = n / 2 ^ 10 % 256;
+      «src_drum» = is-set (n / 2 ^ 9 % 2);
+      «dst_drum» = is-set (n / 2 ^ 8 % 2);
+      volume = n % 256;
+    }

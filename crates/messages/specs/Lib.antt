@@ -1,0 +1,9 @@
+pub mod Refusals
+pub mod format
+pub mod Fields
+pub mod Maps
+pub mod Structures
+pub mod Entries
+pub mod records
+pub mod Layouts
+pub mod Messages

@@ -1,0 +1,10 @@
+pub mod Part
+pub mod Numbers
+pub mod Sequence
+pub mod Tags
+pub mod Views
+pub mod Either
+pub mod Tests
+pub mod Lists
+pub mod Texts
+pub mod Packed

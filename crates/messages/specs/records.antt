@@ -1,0 +1,4 @@
+pub mod SampleDump
+pub mod FileDump
+pub mod Tuning
+pub mod FileReference

@@ -1,0 +1,54 @@
+-- The fields of file references by name, in wire order.
+use mathlib.Core.Path.{refl}
+use mathlib.Core.List.{List}
+use Prim.Native.Nat.{ℕ}
+use Rattle.messages.specs.declared.«file_reference».FileReferenceType.{FileReferenceType}
+use Rattle.messages.specs.format.Views.{Names, names}
+use Rattle.messages.specs.Maps.{BankSelect, WAVSelect, AnySelect}
+
+-- 0B 01 open
+pub record FileOpen : Type 0 where
+  pub context : ℕ
+  pub type : FileReferenceType
+  pub url : List ℕ
+
+abbrev pub file-open : Names (ℕ × (FileReferenceType × List ℕ)) FileOpen
+file-open =
+    names (λ r. (r .context, (r .type, r .url)))
+    (λ x. record { context = x .0; type = x .1 .0; url = x .1 .1 }) (λ x. refl) (λ r. refl)
+
+-- 0B 02 select, bank
+pub record SelectBank : Type 0 where
+  pub context : ℕ
+  pub map : BankSelect
+
+abbrev pub select-bank : Names (ℕ × BankSelect) SelectBank
+select-bank =
+    names (λ r. (r .context, r .map))
+    (λ x. record { context = x .0; map = x .1 }) (λ x. refl) (λ r. refl)
+
+-- 0B 02 select, WAV
+pub record SelectWAV : Type 0 where
+  pub context : ℕ
+  pub map : WAVSelect
+
+abbrev pub select-wav : Names (ℕ × WAVSelect) SelectWAV
+select-wav =
+    names (λ r. (r .context, r .map))
+    (λ x. record { context = x .0; map = x .1 }) (λ x. refl) (λ r. refl)
+
+-- 0B 03 open and select
+pub record OpenSelect : Type 0 where
+  pub context : ℕ
+  pub type : FileReferenceType
+  pub url : List ℕ
+  pub map : AnySelect
+
+abbrev pub open-select : Names (ℕ × (FileReferenceType × (List ℕ × AnySelect))) OpenSelect
+open-select =
+    names (λ r. (r .context, (r .type, (r .url, r .map))))
+    (λ x. record { context = x .0; type = x .1 .0; url = x .1 .1 .0; map = x .1 .1 .1 }) (λ x. refl) (λ r. refl)
+
+-- 0B 04 close: the context alone
+abbrev pub close-context : Names (ℕ × Unit {0}) ℕ
+close-context = names (λ n. (n, tt)) (λ x. x .0) (λ x. refl) (λ n. refl)

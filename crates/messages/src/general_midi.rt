@@ -1,0 +1,7 @@
+// General MIDI, turned on or off.
+
+pub enum GeneralMidi {
+    GM1,
+    Off,
+    GM2,
+}

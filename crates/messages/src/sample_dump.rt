@@ -1,0 +1,89 @@
+// Sample dumps and extended sample dumps (CA-019). Sample bytes and names are lent beside these.
+
+pub enum LoopType {
+    Forward,
+    BiDirectional,
+    Off,
+}
+
+pub enum ExtendedLoopType {
+    Forward,
+    BiDirectional,
+    ForwardRelease,
+    BiDirectionalRelease,
+    Backward,
+    BackwardBiDirectional,
+    BackwardRelease,
+    BackwardBiDirectionalRelease,
+    BackwardOneShot,
+    OneShot,
+}
+
+pub enum LoopNumber {
+    Loop(u16),
+    RequestAll,
+    DeleteAll,
+}
+
+pub enum SampleDumpMsg {
+    Header {
+        sample_num: u16,
+        format: u8,
+        period: u32,
+        length: u32,
+        sustain_loop_start: u32,
+        sustain_loop_end: u32,
+        loop_type: LoopType,
+    },
+    // text: the sample bytes
+    Packet {
+        running_count: u8,
+    },
+    Request {
+        sample_num: u16,
+    },
+    LoopPointTransmission {
+        sample_num: u16,
+        loop_num: LoopNumber,
+        loop_type: LoopType,
+        start_addr: u32,
+        end_addr: u32,
+    },
+    LoopPointsRequest {
+        sample_num: u16,
+        loop_num: LoopNumber,
+    },
+}
+
+pub enum ExtendedSampleDumpMsg {
+    // text: the name
+    SampleName {
+        sample_num: u16,
+    },
+    SampleNameRequest {
+        sample_num: u16,
+    },
+    // the rate is its whole part and the rest in 2^28ths
+    Header {
+        sample_num: u16,
+        format: u8,
+        sample_rate_integer: u32,
+        sample_rate_fraction: u32,
+        length: u64,
+        sustain_loop_start: u64,
+        sustain_loop_end: u64,
+        loop_type: ExtendedLoopType,
+        num_channels: u8,
+    },
+    LoopPointTransmission {
+        sample_num: u16,
+        loop_num: LoopNumber,
+        loop_type: ExtendedLoopType,
+        start_addr: u64,
+        end_addr: u64,
+    },
+    LoopPointsRequest {
+        sample_num: u16,
+        loop_num: LoopNumber,
+    },
+}

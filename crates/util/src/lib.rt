@@ -1,0 +1,1 @@
+// Seven-bit groups.
