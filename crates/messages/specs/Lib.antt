@@ -7,3 +7,6 @@ pub mod Entries
 pub mod records
 pub mod Layouts
 pub mod Messages
+pub mod Contents
+pub mod Walk
+pub mod Promises
