@@ -1,2 +1,4 @@
 pub mod Heads
 pub mod Exact
+pub mod Rows
+pub mod Sums
