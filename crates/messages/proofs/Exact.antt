@@ -13,7 +13,7 @@ use lib.ListN.{length, length-append}
 use borrow.Author.Tests.{eqb-true, eq-eqb, le-leb, leb-true}
 use Rattle.util.specs.Groups.{Seven, seven}
 use Rattle.util.specs.Checksum.{checksum, xor-from}
-use Rattle.util.proofs.Groups.{seven-append, seven-true, true-seven}
+use Rattle.util.proofs.Laws.Groups.{seven-append, seven-true, true-seven}
 use Rattle.messages.specs.declared.refusal.Refusal.{Refusal}
 use Rattle.messages.specs.declared.head.Head.{Head}
 use Rattle.messages.specs.declared.«file_reference».Kind.{Kind}

@@ -2,3 +2,5 @@ pub mod Heads
 pub mod Exact
 pub mod Rows
 pub mod Sums
+pub mod Contents
+pub mod Walk

@@ -12,7 +12,7 @@ use lib.ListN.{length, length-append}
 use borrow.Author.Tests.{eqb-false, ne-eqb}
 use Rattle.util.specs.Groups.{Seven}
 use Rattle.util.specs.Checksum.{checksum}
-use Rattle.util.proofs.Groups.{seven-append, seven-right}
+use Rattle.util.proofs.Laws.Groups.{seven-append, seven-right}
 use Rattle.messages.specs.declared.refusal.Refusal.{Refusal}
 use Rattle.messages.specs.declared.refusal.Refusal.the-variants as R
 use Rattle.messages.specs.declared.head.Head.{Head}

@@ -6,7 +6,7 @@ use Rattle.messages.specs.declared.tuning.MaybeTuning.{MaybeTuning}
 use Rattle.messages.specs.declared.tuning.MaybeTuning.the-variants.{NoTuning, Tuned}
 use Rattle.messages.specs.declared.tuning.KeyTuning.{KeyTuning}
 use Rattle.messages.specs.declared.«file_reference».SoundFileMap.{SoundFileMap}
-use Rattle.messages.specs.Refusals.{pick}
+use Rattle.util.specs.Pick.{pick}
 use Rattle.messages.specs.Fields.{bit, is-set}
 
 -- semitone × 65,536 + fraction; 2^24 for no tuning

@@ -12,8 +12,8 @@ use borrow.Author.Tests.{lt-ltb, le-leb, eqb-true}
 use Rattle.util.specs.Groups.{Seven, seven}
 use Rattle.util.specs.Fields.{fits-u28}
 use Rattle.util.specs.Signed.{biased, unbiased}
-use Rattle.util.proofs.Groups.{both-true, seven-true, true-seven}
-use Rattle.util.proofs.Signed.{biased-unbiased}
+use Rattle.util.proofs.Laws.Groups.{both-true, seven-true, true-seven}
+use Rattle.util.proofs.Laws.Signed.{biased-unbiased}
 use Rattle.messages.specs.declared.refusal.Refusal.{Refusal}
 use Rattle.messages.specs.declared.refusal.Refusal.the-variants.{High, Long, Value}
 use Rattle.messages.specs.declared.«system_exclusive».DeviceID.{DeviceID}
@@ -28,7 +28,8 @@ use Rattle.messages.specs.declared.«sample_dump».LoopNumber.{LoopNumbe
 use Rattle.messages.specs.declared.«sample_dump».LoopNumber.the-variants.{Loop, RequestAll, DeleteAll}
 use Rattle.messages.specs.declared.«file_dump».FileType.{FileType}
 use Rattle.messages.specs.declared.«file_dump».FileType.the-variants.{MIDI, MIEX, ESEQ, TEXT, BIN, MAC, Custom}
-use Rattle.messages.specs.Refusals.{pick, unless, least}
+use Rattle.util.specs.Pick.{pick}
+use Rattle.messages.specs.Refusals.{unless, least}
 use Rattle.messages.specs.format.Part.{Part, Whole}
 use Rattle.messages.specs.format.Numbers.{unsigned, unsigned-high, unsigned-high-below, ranged}
 use Rattle.messages.specs.format.Sequence.{_⊗_, lit}

@@ -6,7 +6,7 @@ use mathlib.Core.List.{List, [], _∷_, _++_}
 use Prim.Native.Nat.{ℕ, _+_, _*_, _<_, _^_}
 use native.Mathlib.Omega.{arith}
 use lib.ListN.{length, length-append}
-use Rattle.util.proofs.Groups.{seven-true}
+use Rattle.util.proofs.Laws.Groups.{seven-true}
 use Rattle.messages.specs.declared.refusal.Refusal.the-variants.{Kind}
 use Rattle.messages.specs.declared.«file_reference».SoundFileMap.{SoundFileMap}
 use Rattle.messages.specs.declared.«file_reference».WAVMap.{WAVMap}

@@ -5,6 +5,7 @@ use mathlib.Core.Option.{Option, none, some}
 use Prim.Native.Nat.{ℕ}
 use native.Mathlib.Omega.{arith}
 use lib.Dec.{leb}
+use Rattle.util.specs.Pick.{pick}
 use Rattle.messages.specs.declared.refusal.Refusal.{Refusal}
 use Rattle.messages.specs.declared.refusal.Refusal.the-variants.{High, Long, Value, Kind, Space, Shape, Head, Field, Sum, Hold, Stream, Index, UnexpectedEnd, ByteOverflow, NotImplemented}
 
@@ -29,10 +30,6 @@ number NotImplemented = 15
 -- "Within a place the order is the table's": the place in that order, apart from the number
 abbrev pub rank : Refusal → ℕ
 rank r = number r
-
-abbrev pub pick : {T : Type 0} → Bool → T → T → T
-pick true a b = a
-pick false a b = b
 
 -- the refusal, unless the test passes
 abbrev pub unless : Refusal → Bool → Option Refusal

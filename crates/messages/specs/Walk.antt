@@ -7,7 +7,7 @@ use Prim.Native.Nat.{ℕ, suc, _-_, _<_}
 use lib.Dec.{ltb, leb}
 use lib.ListN.{take}
 use Rattle.messages.specs.declared.«file_reference».Kind.{Kind}
-use Rattle.messages.specs.Refusals.{pick}
+use Rattle.util.specs.Pick.{pick}
 use Rattle.messages.specs.Messages.{Message, Answer, refused, given, readOf}
 
 -- "A stretch is a part of the stream, told by offset and length"

@@ -4,6 +4,9 @@ use mathlib.Core.List.{List, [], _∷_, _++_}
 use Prim.Native.Nat.{ℕ, _≤_, _^_}
 use lib.Dec.{ltb}
 use Rattle.util.specs.Groups.{groups, groups-high, held}
+use Rattle.util.specs.Pick.{pick}
+use Rattle.util.specs.declared.groups.U28.{U28}
+use Rattle.util.specs.declared.groups.U28.the-variants.{Fits, TooLarge}
 
 -- "A tuning is semitone (u7), then a 14-bit fraction, HIGH group first"
 abbrev pub tuning-bytes : ℕ → ℕ → List ℕ
@@ -16,6 +19,10 @@ no-tuning-bytes = 0x7F ∷ 0x7F ∷ 0x7F ∷ []
 -- "u28: [..] 2^28 or more is refused": a value that four groups hold
 abbrev pub fits-u28 : ℕ → Bool
 fits-u28 v = ltb v (128 ^ 4)
+
+-- a value that fits, or the refusal
+abbrev pub u28-of : ℕ → U28
+u28-of v = pick (fits-u28 v) (Fits v) TooLarge
 
 -- a run of fields: each value held to its width in groups, lowest first; a width of 0 writes nothing
 abbrev pub encode : List ℕ → List ℕ → List ℕ

@@ -1,3 +1,4 @@
+pub mod Pick
 pub mod Groups
 pub mod Fields
 pub mod Signed

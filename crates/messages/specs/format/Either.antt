@@ -9,7 +9,7 @@ use lib.Dec.{eqb}
 use lib.ListN.{length}
 use borrow.Author.Tests.{eqb-true, eq-eqb}
 use Rattle.util.specs.Groups.{Seven}
-use Rattle.util.proofs.Groups.{seven-append}
+use Rattle.util.proofs.Laws.Groups.{seven-append}
 use Rattle.messages.specs.declared.refusal.Refusal.{Refusal}
 use Rattle.messages.specs.Refusals.{none-some, some-none}
 use Rattle.messages.specs.format.Part.{Got, bad, got, guard, bind, guardW, bindW, mapW, Part, Whole, bad-got, guard-got, bind-got, guardW-some, bindW-some, mapW-some, not-some}

@@ -12,7 +12,7 @@ use lib.ListN.{length, take}
 use lib.Seq.{take-all, take-nil}
 use borrow.Author.Tests.{ltb-true, lt-ltb}
 use Rattle.util.specs.Groups.{Seven, seven}
-use Rattle.util.proofs.Groups.{seven-append, seven-true, true-seven}
+use Rattle.util.proofs.Laws.Groups.{seven-append, seven-true, true-seven}
 use Rattle.messages.specs.declared.refusal.Refusal.{Refusal}
 use Rattle.messages.specs.declared.refusal.Refusal.the-variants.{High}
 use Rattle.messages.specs.Refusals.{least, unless, least-none, none-both, unless-none}

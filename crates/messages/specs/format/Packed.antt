@@ -12,7 +12,7 @@ use lib.Dec.{eqb, leb, lit<}
 use lib.ListN.{length}
 use borrow.Author.Tests.{eqb-true, eq-eqb, leb-true, le-leb}
 use Rattle.util.specs.Groups.{Seven, seven}
-use Rattle.util.proofs.Groups.{seven-true, true-seven}
+use Rattle.util.proofs.Laws.Groups.{seven-true, true-seven}
 use Rattle.messages.specs.declared.refusal.Refusal.the-variants.{Long}
 use Rattle.messages.specs.Refusals.{unless, unless-none, none-some}
 use Rattle.messages.specs.format.Part.{Whole, guardW, mapW, guardW-some, mapW-some}

@@ -9,7 +9,7 @@ use lib.Dec.{eqb}
 use lib.ListN.{length}
 use borrow.Author.Tests.{eqb-true, eq-eqb}
 use Rattle.util.specs.Groups.{groups}
-use Rattle.util.proofs.Groups.{seven-append, groups-seven}
+use Rattle.util.proofs.Laws.Groups.{seven-append, groups-seven}
 use Rattle.messages.specs.declared.refusal.Refusal.{Refusal}
 use Rattle.messages.specs.Refusals.{least, unless, least-none, none-both, unless-none, none-some}
 use Rattle.messages.specs.format.Part.{Got, bad, got, guard, bind, guardW, bindW, mapW, Part, Whole, bad-got, guard-got, bind-got, guardW-some, bindW-some, mapW-some, not-some}

@@ -10,9 +10,10 @@ use lib.ListN.{length, take}
 use lib.Seq.{take-all}
 use borrow.Author.Tests.{ltb-true, lt-ltb}
 use Rattle.util.specs.Groups.{Seven}
-use Rattle.util.proofs.Groups.{both-true}
+use Rattle.util.proofs.Laws.Groups.{both-true}
 use Rattle.messages.specs.declared.refusal.Refusal.the-variants.{High}
-use Rattle.messages.specs.Refusals.{pick, unless, unless-none}
+use Rattle.util.specs.Pick.{pick}
+use Rattle.messages.specs.Refusals.{unless, unless-none}
 use Rattle.messages.specs.format.Part.{Got, bad, got, guard, bind, Part, bad-got, guard-got, bind-got}
 
 -- ---- a text: bytes 1 to 127, the first n of them, and 00

@@ -1,0 +1,107 @@
+-- The refusals of contents, rows 1 to 4: the layouts refuse as the rows' words say.
+-- Assumes nothing.
+use mathlib.Core.Path.{_≡_, refl, sym, ap, ap₂, _∙_}
+use mathlib.Core.Option.{Option, none, some}
+use mathlib.Core.List.{List, [], _∷_}
+use Prim.Native.Nat.{ℕ}
+use lib.ListN.{take}
+use Rattle.messages.specs.declared.refusal.Refusal.{Refusal}
+use Rattle.messages.specs.declared.head.Head.{Head}
+use Rattle.messages.specs.declared.head.Head.the-variants.{SampleDumpHeader, SampleDumpPacket, SampleDumpRequest, LoopPointTransmission, LoopPointsRequest, SampleName, SampleNameRequest, ExtendedHeader, ExtendedLoopPointTransmission, ExtendedLoopPointsRequest, IdentityRequest, IdentityReply, FileDumpHeader, FileDumpPacket, FileDumpRequest, TuningBulkDumpRequest, KeyBasedTuningDump, BankTuningBulkDumpRequest, BankKeyBasedTuningDump, ScaleTuningDump1Byte, ScaleTuningDump2Byte, TuningNoteChange, ScaleTuning1Byte, ScaleTuning2Byte, GeneralMidi1, GeneralMidiOff, GeneralMidi2, FileReferenceOpen, SelectSoundFile, SelectWAV, FileReferenceOpenSelect, FileReferenceClose, EOF, Wait, Cancel, NAK, ACK}
+use Rattle.messages.specs.declared.«system_exclusive».ManufacturerID.{ManufacturerID}
+use Rattle.messages.specs.declared.«system_exclusive».ManufacturerID.the-variants.{OneByte, Extended}
+use Rattle.messages.specs.declared.«file_reference».FileReferenceType.{FileReferenceType}
+use Rattle.messages.specs.declared.«file_reference».FileReferenceType.the-variants.{DLS, SF2, WAV}
+use Rattle.messages.specs.Refusals.{least, least-left}
+use Rattle.messages.specs.format.Part.{Part}
+use Rattle.messages.specs.format.Lists.{all-refuse}
+use Rattle.messages.specs.Fields.{u7, tuning, high, maker, type-bytes}
+use Rattle.messages.specs.Structures.{key-tuning, most-changes}
+use Rattle.messages.specs.Maps.{BankSelect, mapList, mapOffset, WAVSelect, wavMap, wavMapOffset, AnySelect, bankSelect, wavSelect, bank-select, wav-select, select-for, sound-file-map}
+use Rattle.messages.specs.Layouts.{Fields, form}
+use Rattle.messages.specs.Messages.{Message, refusal}
+use Rattle.messages.specs.Contents.{contents, zero-maker, other-kind, too-large, longer, high-url}
+use Rattle.messages.specs.Promises.{RefusedExactly}
+
+-- a list of what is never refused
+all-none : {A : Type 0} (p : Part A) → ((a : A) → p .refuses a ≡ none) → (l : List A) → all-refuse p l ≡ none
+all-none p h [] = refl
+all-none p h (x ∷ l) = rw (h x, all-none p h l)
+
+-- a refusal and, after it, a list that is never refused
+then-list : {A : Type 0} (p : Part A) → ((a : A) → p .refuses a ≡ none) → (r : Option Refusal) (l : List A) → least r (all-refuse p l) ≡ r
+then-list p h r l = rw (all-none p h l) (least-left r)
+
+-- a name, tested whole, and then a list that is never refused
+name-list : {A : Type 0} (p : Part A) → ((a : A) → p .refuses a ≡ none) → (n : List ℕ) (k : ℕ) (l : List A)
+    → least (least (high n) (all-refuse u7 (take k n))) (all-refuse p l) ≡ high n
+name-list p h n k l = ap (λ (r : Option Refusal). least r (all-refuse p l)) (then-list u7 (λ a. refl) (high n) (take k n)) ∙ then-list p h (high n) l
+
+name-then : (n : List ℕ) (k : ℕ) → least (least (high n) (all-refuse u7 (take k n))) none ≡ high n
+name-then n k = least-left _ ∙ then-list u7 (λ a. refl) (high n) (take k n)
+
+maker-same : (x : ManufacturerID) → maker .refuses x ≡ zero-maker x
+maker-same (OneByte b) = least-left _
+maker-same (Extended a b) = refl
+
+bank-none : (x : BankSelect) → bank-select .refuses x ≡ none
+bank-none (mapList l) = all-none sound-file-map (λ a. refl) (take 127 l)
+bank-none (mapOffset o) = refl
+
+wav-none : (x : WAVSelect) → wav-select .refuses x ≡ none
+wav-none (wavMap m) = refl
+wav-none (wavMapOffset m o) = refl
+
+map-same : (t : FileReferenceType) (x : AnySelect) → select-for t .refuses x ≡ other-kind t x
+map-same DLS (bankSelect x) = bank-none x
+map-same DLS (wavSelect x) = refl
+map-same SF2 (bankSelect x) = bank-none x
+map-same SF2 (wavSelect x) = refl
+map-same WAV (bankSelect x) = refl
+map-same WAV (wavSelect x) = wav-none x
+
+two-values : (a b : Option Refusal) → least (least a none) (least (least b none) none) ≡ least a b
+two-values a b = ap₂ least (least-left a) (least-left (least b none) ∙ least-left b)
+
+contents-same : (h : Head) (f : Fields h) → form h .refuses f ≡ contents h f
+contents-same SampleName f = then-list u7 (λ a. refl) (high (f .name)) (take 127 (f .name))
+contents-same ExtendedHeader f = two-values (too-large (f .rate-whole)) (too-large (f .rate-fraction))
+contents-same IdentityReply f = least-left _ ∙ maker-same (f .id)
+contents-same FileDumpHeader f = rw (least-left (high (type-bytes (f .type))), least-left (too-large (f .length)))
+contents-same FileDumpPacket f = refl
+contents-same FileDumpRequest f = rw (least-left (high (type-bytes (f .type))))
+contents-same KeyBasedTuningDump f = name-list tuning (λ a. refl) (f .name) 16 (take 128 (f .tunings))
+contents-same BankKeyBasedTuningDump f = name-list tuning (λ a. refl) (f .name) 16 (take 128 (f .tunings))
+contents-same ScaleTuningDump1Byte f = name-then (f .name) 16
+contents-same ScaleTuningDump2Byte f = name-then (f .name) 16
+contents-same TuningNoteChange f = then-list key-tuning (λ a. refl) (longer most-changes (f .changes)) (take 127 (f .changes))
+contents-same FileReferenceOpen f = refl
+contents-same FileReferenceOpenSelect f = rw (map-same (f .type) (f .map))
+contents-same SampleDumpPacket f = all-none u7 (λ a. refl) (take 120 (f .samples))
+contents-same SelectSoundFile f = bank-none (f .map)
+contents-same SelectWAV f = wav-none (f .map)
+contents-same SampleDumpHeader f = refl
+contents-same SampleDumpRequest f = refl
+contents-same LoopPointTransmission f = refl
+contents-same LoopPointsRequest f = refl
+contents-same SampleNameRequest f = refl
+contents-same ExtendedLoopPointTransmission f = refl
+contents-same ExtendedLoopPointsRequest f = refl
+contents-same IdentityRequest f = refl
+contents-same TuningBulkDumpRequest f = refl
+contents-same BankTuningBulkDumpRequest f = refl
+contents-same ScaleTuning1Byte f = refl
+contents-same ScaleTuning2Byte f = refl
+contents-same GeneralMidi1 f = refl
+contents-same GeneralMidiOff f = refl
+contents-same GeneralMidi2 f = refl
+contents-same FileReferenceClose f = refl
+contents-same EOF f = refl
+contents-same Wait f = refl
+contents-same Cancel f = refl
+contents-same NAK f = refl
+contents-same ACK f = refl
+
+pub refused-exactly : RefusedExactly
+unfolding refusal
+refused-exactly m = contents-same (m .head) (m .fields)
