@@ -10,3 +10,5 @@ pub mod Messages
 pub mod Contents
 pub mod Walk
 pub mod Promises
+pub mod MessageOf
+pub mod Defaults

@@ -1,5 +1,8 @@
 // File dumps. Names and file data are lent beside these as text.
+use super::head::Head;
 use super::system_exclusive::DeviceID;
+ghost use mathlib.Core.Path.{_≡_};
+ghost use Rattle.messages.specs.MessageOf.{head-file};
 
 pub enum FileType {
     MIDI,
@@ -27,4 +30,17 @@ pub enum FileDumpMsg {
         requester_device: DeviceID,
         file_type: FileType,
     },
+}
+
+impl FileDumpMsg {
+    // The head of the message.
+    pub fn head(self) -> Head
+        ensures { λ r. ⌜ r ≡ head-file self ⌝ }
+    {
+        match self {
+            FileDumpMsg::Header { .. } => Head::FileDumpHeader,
+            FileDumpMsg::Packet { .. } => Head::FileDumpPacket,
+            FileDumpMsg::Request { .. } => Head::FileDumpRequest,
+        }
+    }
 }

@@ -1,5 +1,9 @@
 // File references (CA-018, CA-028). The URL is lent beside these as text, the maps of a sound file as entries.
+use super::head::Head;
 ghost use mathlib.Core.Path.{_≡_};
+ghost use Rattle.messages.specs.Defaults.{default-sound-file-map, default-wav-map};
+ghost use Rattle.messages.specs.Entries.{map-entry, map-of};
+ghost use Rattle.messages.specs.MessageOf.{head-select, head-reference};
 
 // The kind of sound file open: the scope's "bank or WAV".
 pub enum Kind {
@@ -23,6 +27,28 @@ pub struct SoundFileMap {
     pub volume: u8,
 }
 
+impl SoundFileMap {
+    pub const BANK: u16 = 0;
+    pub const PROGRAM: u8 = 0;
+    pub const DRUM: bool = false;
+    pub const VOLUME: u8 = 0x7F;
+
+    // The map of the crate's default.
+    pub fn default() -> Self
+        ensures { λ r. ⌜ r ≡ default-sound-file-map ⌝ }
+    {
+        SoundFileMap {
+            dst_bank: Self::BANK,
+            dst_prog: Self::PROGRAM,
+            src_bank: Self::BANK,
+            src_prog: Self::PROGRAM,
+            src_drum: Self::DRUM,
+            dst_drum: Self::DRUM,
+            volume: Self::VOLUME,
+        }
+    }
+}
+
 pub struct WAVMap {
     pub dst_bank: u16,
     pub dst_prog: u8,
@@ -31,6 +57,31 @@ pub struct WAVMap {
     pub hikey: u8,
     pub fine: i16,
     pub volume: u8,
+}
+
+impl WAVMap {
+    pub const BANK: u16 = 0;
+    pub const PROGRAM: u8 = 0;
+    pub const BASE: u8 = 60;
+    pub const LOKEY: u8 = 0;
+    pub const HIKEY: u8 = 0x7F;
+    pub const FINE: i16 = 0;
+    pub const VOLUME: u8 = 0x7F;
+
+    // The map of the crate's default.
+    pub fn default() -> Self
+        ensures { λ r. ⌜ r ≡ default-wav-map ⌝ }
+    {
+        WAVMap {
+            dst_bank: Self::BANK,
+            dst_prog: Self::PROGRAM,
+            base: Self::BASE,
+            lokey: Self::LOKEY,
+            hikey: Self::HIKEY,
+            fine: Self::FINE,
+            volume: Self::VOLUME,
+        }
+    }
 }
 
 pub enum SelectMap {
@@ -67,4 +118,32 @@ pub enum FileReferenceMsg {
     Close {
         ctx: u16,
     },
+}
+
+impl SelectMap {
+    // The head of a select with this map.
+    pub fn head(self) -> Head
+        ensures { λ r. ⌜ r ≡ head-select self ⌝ }
+    {
+        match self {
+            SelectMap::SoundFile => Head::SelectSoundFile,
+            SelectMap::WAV(_) => Head::SelectWAV,
+            SelectMap::SoundFileBankOffset { .. } => Head::SelectSoundFile,
+            SelectMap::WAVBankOffset { .. } => Head::SelectWAV,
+        }
+    }
+}
+
+impl FileReferenceMsg {
+    // The head of the message.
+    pub fn head(self) -> Head
+        ensures { λ r. ⌜ r ≡ head-reference self ⌝ }
+    {
+        match self {
+            FileReferenceMsg::Open { .. } => Head::FileReferenceOpen,
+            FileReferenceMsg::SelectContents { ctx: _, map } => map.head(),
+            FileReferenceMsg::OpenSelectContents { .. } => Head::FileReferenceOpenSelect,
+            FileReferenceMsg::Close { .. } => Head::FileReferenceClose,
+        }
+    }
 }

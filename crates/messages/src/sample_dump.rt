@@ -1,4 +1,7 @@
 // Sample dumps and extended sample dumps (CA-019). Sample bytes and names are lent beside these.
+use super::head::Head;
+ghost use mathlib.Core.Path.{_≡_};
+ghost use Rattle.messages.specs.MessageOf.{head-sample, head-extended};
 
 pub enum LoopType {
     Forward,
@@ -86,4 +89,34 @@ pub enum ExtendedSampleDumpMsg {
         sample_num: u16,
         loop_num: LoopNumber,
     },
+}
+
+impl SampleDumpMsg {
+    // The head of the message.
+    pub fn head(self) -> Head
+        ensures { λ r. ⌜ r ≡ head-sample self ⌝ }
+    {
+        match self {
+            SampleDumpMsg::Header { .. } => Head::SampleDumpHeader,
+            SampleDumpMsg::Packet { .. } => Head::SampleDumpPacket,
+            SampleDumpMsg::Request { .. } => Head::SampleDumpRequest,
+            SampleDumpMsg::LoopPointTransmission { .. } => Head::LoopPointTransmission,
+            SampleDumpMsg::LoopPointsRequest { .. } => Head::LoopPointsRequest,
+        }
+    }
+}
+
+impl ExtendedSampleDumpMsg {
+    // The head of the message.
+    pub fn head(self) -> Head
+        ensures { λ r. ⌜ r ≡ head-extended self ⌝ }
+    {
+        match self {
+            ExtendedSampleDumpMsg::SampleName { .. } => Head::SampleName,
+            ExtendedSampleDumpMsg::SampleNameRequest { .. } => Head::SampleNameRequest,
+            ExtendedSampleDumpMsg::Header { .. } => Head::ExtendedHeader,
+            ExtendedSampleDumpMsg::LoopPointTransmission { .. } => Head::ExtendedLoopPointTransmission,
+            ExtendedSampleDumpMsg::LoopPointsRequest { .. } => Head::ExtendedLoopPointsRequest,
+        }
+    }
 }
