@@ -126,8 +126,7 @@ pub inside-shaped : (bs mid : List ℕ) → inside bs ≡ some mid → (0xF0 ∷
 inside-shaped bs mid e =
     guardW-some (leb 6 (length bs)) e λ t e₁. opt-some (strip (0xF0 ∷ []) bs) _ e₁ λ s d e₂.
     bindW-some (unsnoc s) _ e₂ λ x i d₁ e₃. guardW-some (eqb x 0xF7) e₃ λ t₁ e₄. guardW-some (seven i) e₄ λ t₂ e₅.
-    let y : i ≡ mid = cc in
-    (
+    let y : i ≡ mid = cc in (
       rw (← y, ← eqb-true x 0xF7 t₁, unsnoc-only s x i d₁, strip-only (0xF0 ∷ []) bs s d),
       rw (← y) (seven-true i t₂),
       leb-true 6 (length bs) t,

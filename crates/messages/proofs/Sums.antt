@@ -163,7 +163,10 @@ field-of k bs u (refused r) sum-refused e = absurd (u .not-sum (sum-refused-of k
 
 pub field-exactly : FieldExactly
 unfolding readOf
-field-exactly k bs = (no-frame k bs (inside bs) refl, λ u.
-    field-of k bs u (readOf k bs)
-    (rw (shaped-inside bs (u .shaped)) (late-opened k (u .shaped .mid) (read-opening k (u .shaped .mid)) (headed-found k (u .shaped .mid) (u .shaped .low) (u .headed))))
-    refl)
+field-exactly k bs = (
+  no-frame k bs (inside bs) refl,
+  λ u.
+      field-of k bs u (readOf k bs)
+      (rw (shaped-inside bs (u .shaped)) (late-opened k (u .shaped .mid) (read-opening k (u .shaped .mid)) (headed-found k (u .shaped .mid) (u .shaped .low) (u .headed))))
+      refl,
+)

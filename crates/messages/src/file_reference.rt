@@ -29,8 +29,11 @@ pub struct SoundFileMap {
 
 impl SoundFileMap {
     pub const BANK: u16 = 0;
+
     pub const PROGRAM: u8 = 0;
+
     pub const DRUM: bool = false;
+
     pub const VOLUME: u8 = 0x7F;
 
     // The map of the crate's default.
@@ -61,11 +64,17 @@ pub struct WAVMap {
 
 impl WAVMap {
     pub const BANK: u16 = 0;
+
     pub const PROGRAM: u8 = 0;
+
     pub const BASE: u8 = 60;
+
     pub const LOKEY: u8 = 0;
+
     pub const HIKEY: u8 = 0x7F;
+
     pub const FINE: i16 = 0;
+
     pub const VOLUME: u8 = 0x7F;
 
     // The map of the crate's default.

@@ -115,7 +115,8 @@ impl ExtendedSampleDumpMsg {
             ExtendedSampleDumpMsg::SampleName { .. } => Head::SampleName,
             ExtendedSampleDumpMsg::SampleNameRequest { .. } => Head::SampleNameRequest,
             ExtendedSampleDumpMsg::Header { .. } => Head::ExtendedHeader,
-            ExtendedSampleDumpMsg::LoopPointTransmission { .. } => Head::ExtendedLoopPointTransmission,
+            ExtendedSampleDumpMsg::LoopPointTransmission { .. } =>
+                Head::ExtendedLoopPointTransmission,
             ExtendedSampleDumpMsg::LoopPointsRequest { .. } => Head::ExtendedLoopPointsRequest,
         }
     }

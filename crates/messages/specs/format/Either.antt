@@ -83,7 +83,6 @@ module _ {A B : Type 0} (p : Whole A) (q : Whole B) (other : (b : B) → q .sett
         only = either-only;
       }
 
-
 -- ---- one of two parts, the first if it reads
 
 abbrev pub orRightP : {A B : Type 0} → Got A → Got B → Got (Either A B)
@@ -149,7 +148,6 @@ module _ {A B : Type 0} (p : Part A) (q : Part B) (other : (b : B) (r : List ℕ
         only = eitherP-only;
       }
 
-
 -- ---- the left of two only: the other is refused, and never read
 
 module _ {A B : Type 0} (n : Refusal) (p : Whole A) where
@@ -203,4 +201,3 @@ module _ {A B : Type 0} (n : Refusal) (p : Whole A) where
         back = left-back;
         only = left-only;
       }
-
