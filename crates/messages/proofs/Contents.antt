@@ -13,8 +13,7 @@ use Rattle.messages.specs.declared.«system_exclusive».ManufacturerID.t
 use Rattle.messages.specs.declared.«file_reference».FileReferenceType.{FileReferenceType}
 use Rattle.messages.specs.declared.«file_reference».FileReferenceType.the-variants.{DLS, SF2, WAV}
 use Rattle.messages.specs.Refusals.{least, least-left}
-use Rattle.messages.specs.format.Part.{Part}
-use Rattle.messages.specs.format.Lists.{all-refuse}
+use Rattle.messages.specs.format.{Part, all-refuse}
 use Rattle.messages.specs.Fields.{u7, tuning, high, maker, type-bytes}
 use Rattle.messages.specs.Structures.{key-tuning, most-changes}
 use Rattle.messages.specs.Maps.{BankSelect, mapList, mapOffset, WAVSelect, wavMap, wavMapOffset, AnySelect, bankSelect, wavSelect, bank-select, wav-select, select-for, sound-file-map}

@@ -19,9 +19,7 @@ use Rattle.messages.specs.declared.head.Head.{Head}
 use Rattle.messages.specs.declared.«file_reference».Kind.{Kind}
 use Rattle.messages.specs.declared.«system_exclusive».DeviceID.{DeviceID}
 use Rattle.messages.specs.Refusals.{least-none, none-both, none-some}
-use Rattle.messages.specs.format.Part.{Got, bad, got, guardW, bindW, bind, bad-got, bind-got, guardW-some, bindW-some}
-use Rattle.messages.specs.format.Sequence.{strip, strip-only, after, after-got}
-use Rattle.messages.specs.format.Tags.{find, find-only}
+use Rattle.messages.specs.format.{Got, bad, got, guardW, bindW, bind, bad-got, bind-got, guardW-some, bindW-some, strip, strip-only, after, after-got, find, find-only}
 use Rattle.messages.specs.Fields as field
 use Rattle.messages.specs.Layouts.{Fields, form, code, summed, reads, all-heads}
 use Rattle.messages.specs.Messages.{Message, make, Answer, refused, given, refusal, settle, opening, body, with-sum, framed, given-unless, writeOf, Settled, SettledFor, after-first, unsnoc, opt, inside, Opened, read-opening, plain-answer, sum-answer, read-summed, read-fields, read-opened, read-inside, readOf}

@@ -21,7 +21,7 @@ use Rattle.messages.specs.declared.«file_reference».Kind.{Kind}
 use Rattle.messages.specs.declared.«file_reference».Kind.the-variants.{Bank, WAV}
 use Rattle.messages.specs.declared.«system_exclusive».DeviceID.{DeviceID}
 use Rattle.messages.specs.Refusals.{number, none-some}
-use Rattle.messages.specs.format.Part.{Got, bad, got, bad-got}
+use Rattle.messages.specs.format.{Got, bad, got, bad-got}
 use Rattle.messages.specs.Fields as field
 use Rattle.messages.specs.Layouts.{Fields, form, code, summed, reads}
 use Rattle.messages.specs.Messages.{Message, make, Answer, refused, given, answer-number, opening, body, with-sum, framed, SettledFor, unsnoc, inside, Opened, read-opening, plain-answer, sum-answer, read-summed, read-fields, read-opened, read-inside, readOf}

@@ -18,7 +18,7 @@ use Rattle.messages.specs.declared.refusal.Refusal.the-variants as R
 use Rattle.messages.specs.declared.head.Head.{Head}
 use Rattle.messages.specs.declared.«file_reference».Kind.{Kind}
 use Rattle.messages.specs.declared.«system_exclusive».DeviceID.{DeviceID}
-use Rattle.messages.specs.format.Part.{Got, bad, got}
+use Rattle.messages.specs.format.{Got, bad, got}
 use Rattle.messages.specs.Layouts.{Fields, form, summed}
 use Rattle.messages.specs.Messages.{Message, make, Answer, refused, given, opening, body, with-sum, framed, SettledFor, unsnoc, inside, Opened, read-opening, plain-answer, sum-answer, read-summed, read-fields, read-opened, read-inside, readOf}
 use Rattle.messages.specs.Promises.{IsFrame, IsFrameFor, Shaped, Headed, checked, OtherSum, NoFrame, SumExactly, FieldExactly}

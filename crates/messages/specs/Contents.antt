@@ -16,8 +16,7 @@ use Rattle.messages.specs.declared.«system_exclusive».ManufacturerID.t
 use Rattle.messages.specs.declared.«file_reference».FileReferenceType.{FileReferenceType}
 use Rattle.messages.specs.declared.«file_reference».FileReferenceType.the-variants.{DLS, SF2, WAV}
 use Rattle.messages.specs.Refusals.{unless, least}
-use Rattle.messages.specs.format.Packed.{most-data}
-use Rattle.messages.specs.format.Texts.{is-text}
+use Rattle.messages.specs.format.{most-data, is-text}
 use Rattle.messages.specs.Fields.{high, type-bytes, most-name}
 use Rattle.messages.specs.Structures.{most-changes}
 use Rattle.messages.specs.Maps.{AnySelect, bankSelect, wavSelect}

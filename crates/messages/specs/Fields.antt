@@ -30,14 +30,7 @@ use Rattle.messages.specs.declared.«file_dump».FileType.{FileType}
 use Rattle.messages.specs.declared.«file_dump».FileType.the-variants.{MIDI, MIEX, ESEQ, TEXT, BIN, MAC, Custom}
 use Rattle.util.specs.Pick.{pick}
 use Rattle.messages.specs.Refusals.{unless, least}
-use Rattle.messages.specs.format.Part.{Part, Whole}
-use Rattle.messages.specs.format.Numbers.{unsigned, unsigned-high, unsigned-high-below, ranged}
-use Rattle.messages.specs.format.Sequence.{_⊗_, lit}
-use Rattle.messages.specs.format.Views.{via, Names, _named_}
-use Rattle.messages.specs.format.Either.{Either, left, right, eitherP}
-use Rattle.messages.specs.format.Tests.{refusing, such}
-use Rattle.messages.specs.format.Lists.{exactly, counted, rest, all-settled}
-use Rattle.messages.specs.format.Texts.{text, lookup, lookup-same}
+use Rattle.messages.specs.format.{Part, Whole, unsigned, unsigned-high, unsigned-high-below, ranged, _⊗_, lit, via, Names, _named_, Either, left, right, eitherP, refusing, such, exactly, counted, rest, all-settled, text, lookup, lookup-same}
 
 -- ---- numbers
 

@@ -12,13 +12,7 @@ use Rattle.messages.specs.declared.«file_reference».SoundFileMap.{Soun
 use Rattle.messages.specs.declared.«file_reference».WAVMap.{WAVMap}
 use Rattle.messages.specs.declared.«file_reference».FileReferenceType.{FileReferenceType}
 use Rattle.messages.specs.declared.«file_reference».FileReferenceType.the-variants.{DLS, SF2, WAV}
-use Rattle.messages.specs.format.Part.{Part, Whole}
-use Rattle.messages.specs.format.Sequence.{_⊗_, _⊗w_, end, lit}
-use Rattle.messages.specs.format.Tags.{Tag, tagged, choose}
-use Rattle.messages.specs.format.Views.{Names, _named_, _namedW_}
-use Rattle.messages.specs.format.Either.{Either, left, right, either, only-left}
-use Rattle.messages.specs.format.Tests.{other-length}
-use Rattle.messages.specs.format.Lists.{counted, all-bytes}
+use Rattle.messages.specs.format.{Part, Whole, _⊗_, _⊗w_, end, lit, Tag, tagged, choose, Names, _named_, _namedW_, Either, left, right, either, only-left, other-length, counted, all-bytes}
 use Rattle.messages.specs.Fields.{u7, u14, s14, flag, flags, url}
 
 -- ---- one bank map, one WAV map, an offset

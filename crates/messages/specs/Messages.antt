@@ -14,9 +14,7 @@ use Rattle.messages.specs.declared.head.Head.{Head}
 use Rattle.messages.specs.declared.«file_reference».Kind.{Kind}
 use Rattle.messages.specs.declared.«system_exclusive».DeviceID.{DeviceID}
 use Rattle.messages.specs.Refusals.{number, least}
-use Rattle.messages.specs.format.Part.{Got, bad, got, bind, guardW, bindW}
-use Rattle.messages.specs.format.Sequence.{strip, after}
-use Rattle.messages.specs.format.Tags.{find}
+use Rattle.messages.specs.format.{Got, bad, got, bind, guardW, bindW, strip, after, find}
 use Rattle.messages.specs.Fields as field
 use Rattle.messages.specs.Layouts.{Fields, form, code, summed, reads, all-heads, file-data-in, entries-in}
 

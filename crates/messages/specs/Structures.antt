@@ -21,12 +21,7 @@ use Rattle.messages.specs.declared.tuning.Scale1Byte.{Scale1Byte}
 use Rattle.messages.specs.declared.tuning.Scale2Byte.{Scale2Byte}
 use Rattle.messages.specs.declared.«system_exclusive».IdentityReply.{IdentityReply}
 use Rattle.messages.specs.Refusals.{unless}
-use Rattle.messages.specs.format.Part.{Part, Whole}
-use Rattle.messages.specs.format.Sequence.{_⊗_}
-use Rattle.messages.specs.format.Tags.{Tag, tagged}
-use Rattle.messages.specs.format.Views.{Names, _named_}
-use Rattle.messages.specs.format.Tests.{refusing}
-use Rattle.messages.specs.format.Lists.{exactly, counted, all-settled}
+use Rattle.messages.specs.format.{Part, Whole, _⊗_, Tag, tagged, Names, _named_, refusing, exactly, counted, all-settled}
 use Rattle.messages.specs.Fields.{u7, u14, s7, s14, tuning, maker}
 
 -- "128 tunings": "Entry i past the given list is i, 00, 00; entries past 128 are ignored"

@@ -1,10 +1,21 @@
-pub mod Part
+-- The formats that layouts are made of.
+pub mod Core
+pub use Core.*
 pub mod Numbers
+pub use Numbers.*
 pub mod Sequence
+pub use Sequence.*
 pub mod Tags
+pub use Tags.*
 pub mod Views
-pub mod Either
+pub use Views.*
+pub mod Alternatives
+pub use Alternatives.*
 pub mod Tests
+pub use Tests.*
 pub mod Lists
+pub use Lists.*
 pub mod Texts
+pub use Texts.*
 pub mod Packed
+pub use Packed.*

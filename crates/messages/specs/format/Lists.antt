@@ -16,7 +16,7 @@ use Rattle.util.proofs.Laws.Groups.{seven-append, seven-true, true-seven}
 use Rattle.messages.specs.declared.refusal.Refusal.{Refusal}
 use Rattle.messages.specs.declared.refusal.Refusal.the-variants.{High}
 use Rattle.messages.specs.Refusals.{least, unless, least-none, none-both, unless-none}
-use Rattle.messages.specs.format.Part.{Got, bad, got, guard, bind, guardW, Part, Whole, bad-got, guard-got, bind-got, guardW-some}
+use Rattle.messages.specs.format.Core.{Got, bad, got, guard, bind, guardW, Part, Whole, bad-got, guard-got, bind-got, guardW-some}
 
 module _ {A : Type 0} (p : Part A) where
   abbrev pub all-refuse : List A → Option Refusal

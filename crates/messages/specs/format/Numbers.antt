@@ -12,7 +12,7 @@ use borrow.Author.Tests.{ltb-true, lt-ltb, leb-true, le-leb}
 use Rattle.util.specs.Groups.{Seven, seven, groups, value, groups-high, value-high}
 use native.Mathlib.Nat.{le-refl}
 use Rattle.util.proofs.Laws.Groups.{seven-true, true-seven, power-positive, groups-length, groups-seven, value-groups, groups-value, groups-high-length, groups-high-seven, value-high-groups, groups-high-value}
-use Rattle.messages.specs.format.Part.{Got, bad, got, guard, Part, bad-got, guard-got}
+use Rattle.messages.specs.format.Core.{Got, bad, got, guard, Part, bad-got, guard-got}
 
 -- ---- k bytes that stand for a number below t
 

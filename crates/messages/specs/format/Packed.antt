@@ -15,7 +15,7 @@ use Rattle.util.specs.Groups.{Seven, seven}
 use Rattle.util.proofs.Laws.Groups.{seven-true, true-seven}
 use Rattle.messages.specs.declared.refusal.Refusal.the-variants.{Long}
 use Rattle.messages.specs.Refusals.{unless, unless-none, none-some}
-use Rattle.messages.specs.format.Part.{Whole, guardW, mapW, guardW-some, mapW-some}
+use Rattle.messages.specs.format.Core.{Whole, guardW, mapW, guardW-some, mapW-some}
 
 -- the top bits of the next k bytes, the first highest
 abbrev pub tops : ℕ → List ℕ → ℕ

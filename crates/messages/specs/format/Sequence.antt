@@ -9,7 +9,7 @@ use borrow.Author.Tests.{eqb-true, eq-eqb}
 use Rattle.util.specs.Groups.{Seven}
 use Rattle.util.proofs.Laws.Groups.{seven-append}
 use Rattle.messages.specs.Refusals.{least, least-none, none-both, none-some}
-use Rattle.messages.specs.format.Part.{Got, bad, got, bind, guardW, bindW, mapW, Part, Whole, bad-got, bind-got, guardW-some, bindW-some, mapW-some}
+use Rattle.messages.specs.format.Core.{Got, bad, got, bind, guardW, bindW, mapW, Part, Whole, bad-got, bind-got, guardW-some, bindW-some, mapW-some}
 
 -- ---- one after another
 

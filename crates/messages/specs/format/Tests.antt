@@ -12,7 +12,7 @@ use Rattle.util.specs.Groups.{groups}
 use Rattle.util.proofs.Laws.Groups.{seven-append, groups-seven}
 use Rattle.messages.specs.declared.refusal.Refusal.{Refusal}
 use Rattle.messages.specs.Refusals.{least, unless, least-none, none-both, unless-none, none-some}
-use Rattle.messages.specs.format.Part.{Got, bad, got, guard, bind, guardW, bindW, mapW, Part, Whole, bad-got, guard-got, bind-got, guardW-some, bindW-some, mapW-some, not-some}
+use Rattle.messages.specs.format.Core.{Got, bad, got, guard, bind, guardW, bindW, mapW, Part, Whole, bad-got, guard-got, bind-got, guardW-some, bindW-some, mapW-some, not-some}
 use Rattle.messages.specs.format.Numbers.{unsigned}
 
 -- ---- a refusal of a value as it is given, which no settled value meets

@@ -14,7 +14,7 @@ use Rattle.util.proofs.Laws.Groups.{both-true}
 use Rattle.messages.specs.declared.refusal.Refusal.the-variants.{High}
 use Rattle.util.specs.Pick.{pick}
 use Rattle.messages.specs.Refusals.{unless, unless-none}
-use Rattle.messages.specs.format.Part.{Got, bad, got, guard, bind, Part, bad-got, guard-got, bind-got}
+use Rattle.messages.specs.format.Core.{Got, bad, got, guard, bind, Part, bad-got, guard-got, bind-got}
 
 -- ---- a text: bytes 1 to 127, the first n of them, and 00
 

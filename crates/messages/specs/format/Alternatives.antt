@@ -12,7 +12,7 @@ use Rattle.util.specs.Groups.{Seven}
 use Rattle.util.proofs.Laws.Groups.{seven-append}
 use Rattle.messages.specs.declared.refusal.Refusal.{Refusal}
 use Rattle.messages.specs.Refusals.{none-some, some-none}
-use Rattle.messages.specs.format.Part.{Got, bad, got, guard, bind, guardW, bindW, mapW, Part, Whole, bad-got, guard-got, bind-got, guardW-some, bindW-some, mapW-some, not-some}
+use Rattle.messages.specs.format.Core.{Got, bad, got, guard, bind, guardW, bindW, mapW, Part, Whole, bad-got, guard-got, bind-got, guardW-some, bindW-some, mapW-some, not-some}
 
 -- ---- one of two wholes, the first if it reads
 
