@@ -1,7 +1,7 @@
 -- The refusals of contents, rows 1 to 4: the layouts refuse as the rows' words say.
 -- Assumes nothing.
-use mathlib.Core.Path.{_≡_, refl, sym, ap, ap₂, _∙_}
-use mathlib.Core.Option.{Option, none, some}
+use mathlib.Core.Path.{_≡_, refl, ap, ap₂, _∙_}
+use mathlib.Core.Option.{Option, none}
 use mathlib.Core.List.{List, [], _∷_}
 use Prim.Native.Nat.{ℕ}
 use lib.ListN.{take}
@@ -14,12 +14,12 @@ use Rattle.messages.specs.declared.«file_reference».FileReferenceType.
 use Rattle.messages.specs.declared.«file_reference».FileReferenceType.the-variants.{DLS, SF2, WAV}
 use Rattle.messages.specs.Refusals.{least, least-left}
 use Rattle.messages.specs.format.{Part, all-refuse}
-use Rattle.messages.specs.Fields.{u7, tuning, high, maker, type-bytes}
-use Rattle.messages.specs.Structures.{key-tuning, most-changes}
+use Rattle.messages.specs.Fields.{u7, tuning, high, type-bytes}
+use Rattle.messages.specs.Structures.{key-tuning, most-changes, AfterMaker, reply, revision, identity-reply}
 use Rattle.messages.specs.Maps.{BankSelect, mapList, mapOffset, WAVSelect, wavMap, wavMapOffset, AnySelect, bankSelect, wavSelect, bank-select, wav-select, select-for, sound-file-map}
 use Rattle.messages.specs.Layouts.{Fields, form}
-use Rattle.messages.specs.Messages.{Message, refusal}
-use Rattle.messages.specs.Contents.{contents, zero-maker, other-kind, too-large, longer, high-url}
+use Rattle.messages.specs.Messages.{refusal}
+use Rattle.messages.specs.Contents.{contents, zero-maker, other-kind, too-large, longer}
 use Rattle.messages.specs.Promises.{RefusedExactly}
 
 -- a list of what is never refused
@@ -39,9 +39,9 @@ name-list p h n k l = ap (λ (r : Option Refusal). least r (all-refuse p l)) (th
 name-then : (n : List ℕ) (k : ℕ) → least (least (high n) (all-refuse u7 (take k n))) none ≡ high n
 name-then n k = least-left _ ∙ then-list u7 (λ a. refl) (high n) (take k n)
 
-maker-same : (x : ManufacturerID) → maker .refuses x ≡ zero-maker x
-maker-same (OneByte b) = least-left _
-maker-same (Extended a b) = refl
+reply-same : (m : ManufacturerID) (x : AfterMaker) → identity-reply .refuses (reply m x) ≡ zero-maker m
+reply-same (OneByte b) x = least-left _ ∙ least-left _
+reply-same (Extended a b) x = refl
 
 bank-none : (x : BankSelect) → bank-select .refuses x ≡ none
 bank-none (mapList l) = all-none sound-file-map (λ a. refl) (take 127 l)
@@ -65,7 +65,7 @@ two-values a b = ap₂ least (least-left a) (least-left (least b none) ∙ least
 contents-same : (h : Head) (f : Fields h) → form h .refuses f ≡ contents h f
 contents-same SampleName f = then-list u7 (λ a. refl) (high (f .name)) (take 127 (f .name))
 contents-same ExtendedHeader f = two-values (too-large (f .rate-whole)) (too-large (f .rate-fraction))
-contents-same IdentityReply f = least-left _ ∙ maker-same (f .id)
+contents-same IdentityReply f = reply-same (f .id) (f .family, (f .«family_member», revision (f .«software_revision»)))
 contents-same FileDumpHeader f = rw (least-left (high (type-bytes (f .type))), least-left (too-large (f .length)))
 contents-same FileDumpPacket f = refl
 contents-same FileDumpRequest f = rw (least-left (high (type-bytes (f .type))))

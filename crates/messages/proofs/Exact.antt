@@ -14,15 +14,16 @@ use borrow.Author.Tests.{eqb-true, eq-eqb, le-leb, leb-true}
 use Rattle.util.specs.Groups.{Seven, seven}
 use Rattle.util.specs.Checksum.{checksum, xor-from}
 use Rattle.util.proofs.Laws.Groups.{seven-append, seven-true, true-seven}
+use Rattle.util.proofs.Laws.Options.{none-some, only-if-some}
 use Rattle.messages.specs.declared.refusal.Refusal.{Refusal}
 use Rattle.messages.specs.declared.head.Head.{Head}
 use Rattle.messages.specs.declared.«file_reference».Kind.{Kind}
 use Rattle.messages.specs.declared.«system_exclusive».DeviceID.{DeviceID}
-use Rattle.messages.specs.Refusals.{least-none, none-both, none-some}
-use Rattle.messages.specs.format.{Got, bad, got, guardW, bindW, bind, bad-got, bind-got, guardW-some, bindW-some, strip, strip-only, after, after-got, find, find-only}
+use Rattle.messages.specs.Refusals.{least-none, none-both}
+use Rattle.messages.specs.format.{Got, bad, got, bind, bad-got, bind-got, bindW-some, strip, strip-only, after-got, find, find-only}
 use Rattle.messages.specs.Fields as field
 use Rattle.messages.specs.Layouts.{Fields, form, code, summed, reads, all-heads}
-use Rattle.messages.specs.Messages.{Message, make, Answer, refused, given, refusal, settle, opening, body, with-sum, framed, given-unless, writeOf, Settled, SettledFor, after-first, unsnoc, opt, inside, Opened, read-opening, plain-answer, sum-answer, read-summed, read-fields, read-opened, read-inside, readOf}
+use Rattle.messages.specs.Messages.{Message, make, refused, given, refusal, settle, opening, body, with-sum, framed, given-unless, writeOf, Settled, SettledFor, after-first, unsnoc, opt, inside, Opened, read-opening, plain-answer, sum-answer, read-summed, read-fields, read-opened, read-inside, readOf}
 use Rattle.messages.specs.Promises.{IsFrame, WritesSettled, AdmittedWritten, ReadExactly, FrameUnique, ReadsBack, WrittenReads, FrameShaped, Shaped}
 use Rattle.messages.proofs.Heads.{find-head, code-seven, two-bytes}
 
@@ -122,8 +123,8 @@ opt-some (some a) f e k = k a refl e
 
 pub inside-shaped : (bs mid : List ℕ) → inside bs ≡ some mid → (0xF0 ∷ (mid ++ (0xF7 ∷ [])) ≡ bs) × Seven mid × (6 ≤ length bs)
 inside-shaped bs mid e =
-    guardW-some (leb 6 (length bs)) e λ t e₁. opt-some (strip (0xF0 ∷ []) bs) _ e₁ λ s d e₂.
-    bindW-some (unsnoc s) _ e₂ λ x i d₁ e₃. guardW-some (eqb x 0xF7) e₃ λ t₁ e₄. guardW-some (seven i) e₄ λ t₂ e₅.
+    only-if-some (leb 6 (length bs)) e λ t e₁. opt-some (strip (0xF0 ∷ []) bs) _ e₁ λ s d e₂.
+    bindW-some (unsnoc s) _ e₂ λ x i d₁ e₃. only-if-some (eqb x 0xF7) e₃ λ t₁ e₄. only-if-some (seven i) e₄ λ t₂ e₅.
     let y : i ≡ mid = cc in (
       rw (← y, ← eqb-true x 0xF7 t₁, unsnoc-only s x i d₁, strip-only (0xF0 ∷ []) bs s d),
       rw (← y) (seven-true i t₂),

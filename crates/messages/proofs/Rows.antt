@@ -4,15 +4,14 @@ use mathlib.Core.Path.{_≡_, refl, sym, subst, ap, _∙_}
 use mathlib.Core.Bool.{Bool, true, false}
 use mathlib.Core.Logic.{_↔_, _⊎_, inl, inr, ⊎-elim}
 use mathlib.Core.Option.{Option, none, some}
-use mathlib.Core.List.{List, [], _∷_, _++_, append-assoc}
+use mathlib.Core.List.{List, [], _∷_, _++_}
 use Prim.Native.Nat.{ℕ, _%_, _<_, _≤_}
 use native.Mathlib.Omega.{arith}
 use lib.Dec.{eqb}
 use lib.ListN.{length, length-append}
-use borrow.Author.Tests.{eqb-false, ne-eqb}
 use Rattle.util.specs.Groups.{Seven}
 use Rattle.util.specs.Checksum.{checksum}
-use Rattle.util.proofs.Laws.Groups.{seven-append, seven-right}
+use Rattle.util.proofs.Laws.Options.{none-some}
 use Rattle.messages.specs.declared.refusal.Refusal.{Refusal}
 use Rattle.messages.specs.declared.refusal.Refusal.the-variants as R
 use Rattle.messages.specs.declared.head.Head.{Head}
@@ -20,13 +19,13 @@ use Rattle.messages.specs.declared.head.Head.the-variants.{SampleDumpHea
 use Rattle.messages.specs.declared.«file_reference».Kind.{Kind}
 use Rattle.messages.specs.declared.«file_reference».Kind.the-variants.{Bank, WAV}
 use Rattle.messages.specs.declared.«system_exclusive».DeviceID.{DeviceID}
-use Rattle.messages.specs.Refusals.{number, none-some}
+use Rattle.messages.specs.Refusals.{number}
 use Rattle.messages.specs.format.{Got, bad, got, bad-got}
 use Rattle.messages.specs.Fields as field
 use Rattle.messages.specs.Layouts.{Fields, form, code, summed, reads}
-use Rattle.messages.specs.Messages.{Message, make, Answer, refused, given, answer-number, opening, body, with-sum, framed, SettledFor, unsnoc, inside, Opened, read-opening, plain-answer, sum-answer, read-summed, read-fields, read-opened, read-inside, readOf}
-use Rattle.messages.specs.Promises.{IsFrame, IsFrameFor, Shaped, Headed, checked, OtherSum, NoFrame, ShapeExactly, HeadExactly, SumExactly, FieldExactly}
-use Rattle.messages.proofs.Exact.{parts-settled, settled-parts, write-settled, written, unsnoc-back, unsnoc-only, inside-back, inside-shaped, opening-back, opening-only, body-seven, body-long, refused-given, read-settled, reads-back}
+use Rattle.messages.specs.Messages.{Message, Answer, refused, given, answer-number, opening, unsnoc, inside, Opened, read-opening, plain-answer, sum-answer, read-summed, read-fields, read-opened, read-inside, readOf}
+use Rattle.messages.specs.Promises.{Shaped, Headed, ShapeExactly, HeadExactly}
+use Rattle.messages.proofs.Exact.{inside-back, inside-shaped, opening-back, opening-only}
 
 -- ---- which refusals a reading comes to
 

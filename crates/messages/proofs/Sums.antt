@@ -1,14 +1,13 @@
 -- The refusals SUM and FIELD, rows 9 and 8: each is given exactly as its row says.
 -- Assumes nothing.
-use mathlib.Core.Path.{_≡_, refl, sym, subst, ap, _∙_}
+use mathlib.Core.Path.{_≡_, refl, sym, ap, _∙_}
 use mathlib.Core.Bool.{Bool, true, false}
-use mathlib.Core.Logic.{_↔_, _⊎_, inl, inr, ⊎-elim}
 use mathlib.Core.Option.{Option, none, some}
 use mathlib.Core.List.{List, [], _∷_, _++_, append-assoc}
-use Prim.Native.Nat.{ℕ, _<_, _≤_}
+use Prim.Native.Nat.{ℕ, _<_}
 use native.Mathlib.Omega.{arith}
 use lib.Dec.{eqb}
-use lib.ListN.{length, length-append}
+use lib.ListN.{length-append}
 use borrow.Author.Tests.{eqb-false, ne-eqb}
 use Rattle.util.specs.Groups.{Seven}
 use Rattle.util.specs.Checksum.{checksum}
@@ -20,9 +19,9 @@ use Rattle.messages.specs.declared.«file_reference».Kind.{Kind}
 use Rattle.messages.specs.declared.«system_exclusive».DeviceID.{DeviceID}
 use Rattle.messages.specs.format.{Got, bad, got}
 use Rattle.messages.specs.Layouts.{Fields, form, summed}
-use Rattle.messages.specs.Messages.{Message, make, Answer, refused, given, opening, body, with-sum, framed, SettledFor, unsnoc, inside, Opened, read-opening, plain-answer, sum-answer, read-summed, read-fields, read-opened, read-inside, readOf}
-use Rattle.messages.specs.Promises.{IsFrame, IsFrameFor, Shaped, Headed, checked, OtherSum, NoFrame, SumExactly, FieldExactly}
-use Rattle.messages.proofs.Exact.{parts-settled, settled-parts, write-settled, written, unsnoc-back, unsnoc-only, inside-back, inside-shaped, opening-back, opening-only, body-seven, body-long, refused-given, read-settled, reads-back}
+use Rattle.messages.specs.Messages.{Message, make, Answer, refused, given, opening, body, with-sum, framed, unsnoc, inside, Opened, read-opening, plain-answer, sum-answer, read-summed, read-fields, read-opened, read-inside, readOf}
+use Rattle.messages.specs.Promises.{IsFrameFor, Headed, checked, OtherSum, NoFrame, SumExactly, FieldExactly}
+use Rattle.messages.proofs.Exact.{parts-settled, settled-parts, write-settled, unsnoc-back, unsnoc-only, inside-back, inside-shaped, opening-back, opening-only, body-seven, body-long, refused-given, read-settled, reads-back}
 use Rattle.messages.proofs.Rows.{same-number, Late, message, field-refused, sum-refused, late-fields, inside-record, shaped-inside, opened-headed, headed-found}
 
 -- ---- 9 SUM

@@ -13,9 +13,9 @@ use lib.Seq.{drop-nil, take-nil, length-take-le}
 use borrow.Author.Tests.{ltb-true, lt-ltb, le-ltb, le-leb, lt-leb}
 use Rattle.util.specs.Groups.{Seven}
 use Rattle.messages.specs.declared.«file_reference».Kind.{Kind}
-use Rattle.messages.specs.Messages.{Message, Answer, refused, given, readOf}
-use Rattle.messages.specs.Walk.{Stretch, low-run, reach, stretches, is-given, is-frame, frames, Listed, Above, Rising, since, Ending, Enclosed, Encloses}
-use Rattle.messages.specs.Promises.{IsFrame, IsFrameFor, Shaped, ListedExactly, ListedRising, SameFromThere}
+use Rattle.messages.specs.Messages.{Answer, refused, given, readOf}
+use Rattle.messages.specs.Walk.{Stretch, low-run, reach, stretches, is-given, is-frame, Listed, Above, Rising, since, Ending, Enclosed, Encloses}
+use Rattle.messages.specs.Promises.{IsFrameFor, ListedExactly, ListedRising, SameFromThere}
 use Rattle.messages.proofs.Exact.{read-settled, reads-back, frame-shaped}
 
 pub bool-cases : (t : Bool) → (t ≡ true) ⊎ (t ≡ false)

@@ -1,11 +1,9 @@
 -- The refusals of contents written, rows 1 to 4, in the rows' words: a line for each head.
-use mathlib.Core.Bool.{Bool}
 use mathlib.Core.Option.{Option, none, some}
 use mathlib.Core.List.{List}
 use Prim.Native.Nat.{ℕ}
-use lib.Dec.{ltb, leb}
+use lib.Dec.{leb}
 use lib.ListN.{length}
-use Rattle.util.specs.Groups.{seven}
 use Rattle.util.specs.Fields.{fits-u28}
 use Rattle.messages.specs.declared.refusal.Refusal.{Refusal}
 use Rattle.messages.specs.declared.refusal.Refusal.the-variants.{High, Long, Value, Kind}

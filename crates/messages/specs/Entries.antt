@@ -1,5 +1,4 @@
 -- Lent entries: tunings, note changes and bank maps as numbers of 64 bits, one place each. Every number is some entry.
-use mathlib.Core.Bool.{Bool, true, false}
 use Prim.Native.Nat.{ℕ, _+_, _*_, _/_, _%_, _^_}
 use lib.Dec.{ltb}
 use Rattle.messages.specs.declared.tuning.MaybeTuning.{MaybeTuning}

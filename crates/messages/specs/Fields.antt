@@ -2,24 +2,22 @@
 use mathlib.Core.Path.{_≡_, refl, sym, ap, _∙_}
 use mathlib.Core.Bool.{Bool, true, false, _&&_}
 use mathlib.Core.List.{List, [], _∷_}
-use mathlib.Core.Option.{Option, none, some}
+use mathlib.Core.Option.{Option, none}
 use Prim.Native.Nat.{ℕ, zero, suc, _+_, _*_, _≤_, _<_, _^_}
 use native.Mathlib.Omega.{arith}
-use lib.Dec.{ltb, leb, eqb, lit<, lit≤}
+use lib.Dec.{leb, eqb, lit<, lit≤}
 use lib.ListN.{length}
 use lib.IntN.{ℤ}
 use borrow.Author.Tests.{lt-ltb, le-leb, eqb-true}
 use Rattle.util.specs.Groups.{Seven, seven}
 use Rattle.util.specs.Fields.{fits-u28}
 use Rattle.util.specs.Signed.{biased, unbiased}
-use Rattle.util.proofs.Laws.Groups.{both-true, seven-true, true-seven}
+use Rattle.util.proofs.Laws.Groups.{both-true, true-seven}
 use Rattle.util.proofs.Laws.Signed.{biased-unbiased}
 use Rattle.messages.specs.declared.refusal.Refusal.{Refusal}
 use Rattle.messages.specs.declared.refusal.Refusal.the-variants.{High, Long, Value}
 use Rattle.messages.specs.declared.«system_exclusive».DeviceID.{DeviceID}
 use Rattle.messages.specs.declared.«system_exclusive».DeviceID.the-variants.{Device, AllCall}
-use Rattle.messages.specs.declared.«system_exclusive».ManufacturerID.{ManufacturerID}
-use Rattle.messages.specs.declared.«system_exclusive».ManufacturerID.the-variants.{OneByte, Extended}
 use Rattle.messages.specs.declared.tuning.MaybeTuning.{MaybeTuning}
 use Rattle.messages.specs.declared.tuning.MaybeTuning.the-variants.{NoTuning, Tuned}
 use Rattle.messages.specs.declared.tuning.TuningBank.{TuningBank}
@@ -29,8 +27,8 @@ use Rattle.messages.specs.declared.«sample_dump».LoopNumber.the-varian
 use Rattle.messages.specs.declared.«file_dump».FileType.{FileType}
 use Rattle.messages.specs.declared.«file_dump».FileType.the-variants.{MIDI, MIEX, ESEQ, TEXT, BIN, MAC, Custom}
 use Rattle.util.specs.Pick.{pick}
-use Rattle.messages.specs.Refusals.{unless, least}
-use Rattle.messages.specs.format.{Part, Whole, unsigned, unsigned-high, unsigned-high-below, ranged, _⊗_, lit, via, Names, _named_, Either, left, right, eitherP, refusing, such, exactly, counted, rest, all-settled, text, lookup, lookup-same}
+use Rattle.messages.specs.Refusals.{unless}
+use Rattle.messages.specs.format.{Part, Whole, unsigned, unsigned-high, unsigned-high-below, ranged, _⊗_, lit, via, _named_, refusing, such, exactly, counted, rest, all-settled, text, lookup, lookup-same}
 
 -- ---- numbers
 
@@ -181,19 +179,11 @@ zero-then p = lit (0 ∷ []) (lit< tt, tt) p
 pub maker-fine : (v : ℕ) → (1 ≤ v) × (v ≤ 124) → unless Value (leb 1 v) ≡ none
 maker-fine v h = ap (unless Value) (le-leb 1 v (h .0))
 
-abbrev pub maker-forms : Names (Either ℕ (ℕ × ℕ)) ManufacturerID
-maker-forms =
-    record {
-      to = elim [ OneByte b ↦ left b | Extended a b ↦ right (a, b) ];
-      from = elim [ left b ↦ OneByte b | right x ↦ Extended (x .0) (x .1) ];
-      to-from = elim [ left b ↦ refl | right x ↦ refl ];
-      from-to = elim [ OneByte b ↦ refl | Extended a b ↦ refl ];
-    }
+abbrev pub one-byte-maker : Part ℕ
+one-byte-maker = refusing (λ v. unless Value (leb 1 v)) (ranged 1 124 (lit≤ tt) (lit< tt)) maker-fine
 
-abbrev pub maker : Part ManufacturerID
-maker =
-    eitherP (refusing (λ v. unless Value (leb 1 v)) (ranged 1 124 (lit≤ tt) (lit< tt)) maker-fine) (zero-then (u7 ⊗ u7)) (λ b r h. refl)
-    named maker-forms
+abbrev pub extended-maker : Part (ℕ × ℕ)
+extended-maker = zero-then (u7 ⊗ u7)
 
 -- ---- a file type: "Types: "MIDI", "MIEX", "ESEQ", "TEXT", "BIN ", "MAC ", or custom"; settled: "a named type where the four bytes spell one"
 

@@ -13,7 +13,7 @@ use Rattle.messages.specs.Fields.{u7, u14, u21, u28, u35, format, channe
 use Rattle.messages.specs.Structures.{keys, note-changes, scale-1, scale-2, identity-reply, loop-type, extended-loop-type}
 use Rattle.messages.specs.Entries.{tuning-entry, change-entry, map-entry}
 use Rattle.messages.specs.Maps.{BankSelect, mapList, mapOffset, AnySelect, bankSelect, wavSelect, bank-select, bank-length, bank-short, wav-select, wav-length, wav-short, type-url, type-url-short, type-url-map, open-length, open-short}
-use Rattle.messages.specs.records.{sample-header, sample-packet, loop-transmission, loop-request, named-sample, extended-header, extended-transmission, file-header, file-packet, file-request, bank-request, key-dump, bank-key-dump, scale-dump-1, scale-dump-2, note-change, scale-tuning-1, scale-tuning-2, file-open, select-bank, select-wav, open-select, close-context}
+use Rattle.messages.specs.records.{sample-header, sample-packet, loop-transmission, loop-request, named-sample, extended-header, file-header, file-packet, file-request, bank-request, key-dump, bank-key-dump, note-change, file-open, open-select, close-context, scale-dump, scale-tuning, select}
 
 -- a row: the head's bytes, whether a checksum ends it, the kinds of sound file that it is read for, its fields,
 -- and the file data and the entries among them, which "go to lent space, one place each"
@@ -84,12 +84,12 @@ layout SampleNameRequest = row (0x05 ∷ 0x04 ∷ []) (end u14)
 -- 05 05 extended header: nn, format held to 8..28, whole rate and 2^28ths of the rate (u28 each), length, start, end (u35 each), type, channels (u7)
 layout ExtendedHeader = row (0x05 ∷ 0x05 ∷ []) (end (u14 ⊗ format ⊗ u28 ⊗ u28 ⊗ u35 ⊗ u35 ⊗ u35 ⊗ extended-loop-type ⊗ u7 named extended-header))
 -- 05 06, 05 07: as 05 01, 05 02 with u35 addresses
-layout ExtendedLoopPointTransmission = row (0x05 ∷ 0x06 ∷ []) (end (u14 ⊗ loop-transmitted ⊗ extended-loop-type ⊗ u35 ⊗ u35 named extended-transmission))
+layout ExtendedLoopPointTransmission = row (0x05 ∷ 0x06 ∷ []) (end (u14 ⊗ loop-transmitted ⊗ extended-loop-type ⊗ u35 ⊗ u35 named loop-transmission))
 layout ExtendedLoopPointsRequest = row (0x05 ∷ 0x07 ∷ []) (end (u14 ⊗ loop-requested named loop-request))
 -- 06 01 identity request
 layout IdentityRequest = row (0x06 ∷ 0x01 ∷ []) (end nothing)
 -- 06 02 reply: maker, family, member (u14 each), four u7
-layout IdentityReply = row (0x06 ∷ 0x02 ∷ []) (end identity-reply)
+layout IdentityReply = row (0x06 ∷ 0x02 ∷ []) identity-reply
 -- 07 01 file header: sender device, four type bytes, length (u28), name
 layout FileDumpHeader = row (0x07 ∷ 0x01 ∷ []) (device ⊗w file-type ⊗w u28 ⊗w file-name namedW file-header)
 -- 07 02 file packet: count (u7), n + n div 7, packed data; cs
@@ -105,13 +105,13 @@ layout BankTuningBulkDumpRequest = row (0x08 ∷ 0x03 ∷ []) (end (u7 ⊗ u7 na
 -- 08 04 the same after a bank byte
 layout BankKeyBasedTuningDump = with-entries (row-cs (0x08 ∷ 0x04 ∷ []) (end (u7 ⊗ u7 ⊗ name-of-16 ⊗ keys named bank-key-dump))) (λ f. map tuning-entry (f .tunings))
 -- 08 05, 08 06 scale dump: bank, program, name, twelve signed 7 or signed 14, cs
-layout ScaleTuningDump1Byte = row-cs (0x08 ∷ 0x05 ∷ []) (end (u7 ⊗ u7 ⊗ name-of-16 ⊗ scale-1 named scale-dump-1))
-layout ScaleTuningDump2Byte = row-cs (0x08 ∷ 0x06 ∷ []) (end (u7 ⊗ u7 ⊗ name-of-16 ⊗ scale-2 named scale-dump-2))
+layout ScaleTuningDump1Byte = row-cs (0x08 ∷ 0x05 ∷ []) (end (u7 ⊗ u7 ⊗ name-of-16 ⊗ scale-1 named scale-dump))
+layout ScaleTuningDump2Byte = row-cs (0x08 ∷ 0x06 ∷ []) (end (u7 ⊗ u7 ⊗ name-of-16 ⊗ scale-2 named scale-dump))
 -- 08 07 note change: bank (00 if none), program, number of entries, each a key (u7) and a tuning
 layout TuningNoteChange = with-entries (row (0x08 ∷ 0x07 ∷ []) (end (bank-or-none ⊗ u7 ⊗ note-changes named note-change))) (λ f. map change-entry (f .changes))
 -- 08 08, 08 09: three channel bytes, twelve values, no checksum
-layout ScaleTuning1Byte = row (0x08 ∷ 0x08 ∷ []) (end (channels ⊗ scale-1 named scale-tuning-1))
-layout ScaleTuning2Byte = row (0x08 ∷ 0x09 ∷ []) (end (channels ⊗ scale-2 named scale-tuning-2))
+layout ScaleTuning1Byte = row (0x08 ∷ 0x08 ∷ []) (end (channels ⊗ scale-1 named scale-tuning))
+layout ScaleTuning2Byte = row (0x08 ∷ 0x09 ∷ []) (end (channels ⊗ scale-2 named scale-tuning))
 -- 09 01, 09 02, 09 03: General MIDI 1, off, General MIDI 2
 layout GeneralMidi1 = row (0x09 ∷ 0x01 ∷ []) (end nothing)
 layout GeneralMidiOff = row (0x09 ∷ 0x02 ∷ []) (end nothing)
@@ -119,8 +119,8 @@ layout GeneralMidi2 = row (0x09 ∷ 0x03 ∷ []) (end nothing)
 -- 0B 01 open: context nn, length nn, type "DLS ", "SF2 " or "WAV ", URL (first 260 bytes), 00
 layout FileReferenceOpen = row (0x0B ∷ 0x01 ∷ []) (u14 ⊗w sized (λ x. length (type-url .bytes x)) type-url type-url-short namedW file-open)
 -- 0B 02 select: nn, length, map
-layout SelectSoundFile = with-entries (row-for is-bank (0x0B ∷ 0x02 ∷ []) (u14 ⊗w sized bank-length bank-select bank-short namedW select-bank)) (λ f. bank-entries (f .map))
-layout SelectWAV = row-for is-wav (0x0B ∷ 0x02 ∷ []) (u14 ⊗w sized wav-length wav-select wav-short namedW select-wav)
+layout SelectSoundFile = with-entries (row-for is-bank (0x0B ∷ 0x02 ∷ []) (u14 ⊗w sized bank-length bank-select bank-short namedW select)) (λ f. bank-entries (f .map))
+layout SelectWAV = row-for is-wav (0x0B ∷ 0x02 ∷ []) (u14 ⊗w sized wav-length wav-select wav-short namedW select)
 -- 0B 03: as 0B 01 with a map after it
 layout FileReferenceOpenSelect = with-entries (row (0x0B ∷ 0x03 ∷ []) (u14 ⊗w sized open-length type-url-map open-short namedW open-select)) (λ f. select-entries (f .map))
 -- 0B 04 close: nn, 00 00

@@ -1,6 +1,6 @@
 -- The maps of file references (01, 0B 02 and 0B 03): bank maps, WAV maps, offsets.
-use mathlib.Core.Path.{_≡_, refl, sym, ap, _∙_}
-use mathlib.Core.Bool.{Bool, true}
+use mathlib.Core.Path.{_≡_, refl}
+use mathlib.Core.Bool.{Bool}
 use mathlib.Core.Option.{none}
 use mathlib.Core.List.{List, [], _∷_, _++_}
 use Prim.Native.Nat.{ℕ, _+_, _*_, _<_, _^_}
@@ -12,7 +12,7 @@ use Rattle.messages.specs.declared.«file_reference».SoundFileMap.{Soun
 use Rattle.messages.specs.declared.«file_reference».WAVMap.{WAVMap}
 use Rattle.messages.specs.declared.«file_reference».FileReferenceType.{FileReferenceType}
 use Rattle.messages.specs.declared.«file_reference».FileReferenceType.the-variants.{DLS, SF2, WAV}
-use Rattle.messages.specs.format.{Part, Whole, _⊗_, _⊗w_, end, lit, Tag, tagged, choose, Names, _named_, _namedW_, Either, left, right, either, only-left, other-length, counted, all-bytes}
+use Rattle.messages.specs.format.{Part, Whole, _⊗_, _⊗w_, end, lit, Tag, tagged, choose, Names, _named_, _namedW_, Either, left, right, either, never, other-length, counted, all-bytes}
 use Rattle.messages.specs.Fields.{u7, u14, s14, flag, flags, url}
 
 -- ---- one bank map, one WAV map, an offset
@@ -122,25 +122,20 @@ pub data AnySelect : Type 0 where
   bankSelect : BankSelect → AnySelect
   wavSelect : WAVSelect → AnySelect
 
-abbrev pub bank-only : Whole AnySelect
-bank-only =
-    only-left {B = WAVSelect} Kind bank-select
-    namedW record {
+abbrev pub any-select : Names (Either BankSelect WAVSelect) AnySelect
+any-select =
+    record {
       to = elim [ bankSelect x ↦ left x | wavSelect x ↦ right x ];
       from = elim [ left x ↦ bankSelect x | right x ↦ wavSelect x ];
       to-from = elim [ left x ↦ refl | right x ↦ refl ];
       from-to = elim [ bankSelect x ↦ refl | wavSelect x ↦ refl ];
     }
 
+abbrev pub bank-only : Whole AnySelect
+bank-only = either bank-select (never Kind) (λ x h. absurd h) namedW any-select
+
 abbrev pub wav-only : Whole AnySelect
-wav-only =
-    only-left {B = BankSelect} Kind wav-select
-    namedW record {
-      to = elim [ bankSelect x ↦ right x | wavSelect x ↦ left x ];
-      from = elim [ left x ↦ wavSelect x | right x ↦ bankSelect x ];
-      to-from = elim [ left x ↦ refl | right x ↦ refl ];
-      from-to = elim [ bankSelect x ↦ refl | wavSelect x ↦ refl ];
-    }
+wav-only = either (never Kind) wav-select (λ x h. refl) namedW any-select
 
 -- "in 0B 03 the file type does ("DLS " and "SF2 " are bank)"
 abbrev pub select-for : FileReferenceType → Whole AnySelect

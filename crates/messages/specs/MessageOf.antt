@@ -1,5 +1,5 @@
 -- The message that an enum of the code is, beside the text and the entries lent with it. What a message does not use of these is as if not there.
-use mathlib.Core.List.{List, [], map}
+use mathlib.Core.List.{List, map}
 use Prim.Native.Nat.{ℕ}
 use Rattle.messages.specs.declared.head.Head.{Head}
 use Rattle.messages.specs.declared.head.Head.the-variants as head

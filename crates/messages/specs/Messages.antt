@@ -8,13 +8,14 @@ use lib.Dec.{leb, eqb}
 use lib.ListN.{length}
 use Rattle.util.specs.Groups.{seven}
 use Rattle.util.specs.Checksum.{checksum}
+use Rattle.util.specs.Options.{only-if}
 use Rattle.messages.specs.declared.refusal.Refusal.{Refusal}
 use Rattle.messages.specs.declared.refusal.Refusal.the-variants as R
 use Rattle.messages.specs.declared.head.Head.{Head}
 use Rattle.messages.specs.declared.«file_reference».Kind.{Kind}
 use Rattle.messages.specs.declared.«system_exclusive».DeviceID.{DeviceID}
 use Rattle.messages.specs.Refusals.{number, least}
-use Rattle.messages.specs.format.{Got, bad, got, bind, guardW, bindW, strip, after, find}
+use Rattle.messages.specs.format.{Got, bad, got, bind, bindW, strip, after, find}
 use Rattle.messages.specs.Fields as field
 use Rattle.messages.specs.Layouts.{Fields, form, code, summed, reads, all-heads, file-data-in, entries-in}
 
@@ -104,8 +105,8 @@ opt (some a) f = f a
 -- what stands between F0 and F7; none where SHAPE applies: "under 6 bytes, first not F0, last not F7, or a byte above 127 between"
 abbrev pub inside : List ℕ → Option (List ℕ)
 inside bs =
-    guardW (leb 6 (length bs))
-    (opt (strip (0xF0 ∷ []) bs) λ s. bindW (unsnoc s) λ x mid. guardW (eqb x 0xF7) (guardW (seven mid) (some mid)))
+    only-if (leb 6 (length bs))
+    (opt (strip (0xF0 ∷ []) bs) λ s. bindW (unsnoc s) λ x mid. only-if (eqb x 0xF7) (only-if (seven mid) (some mid)))
 
 abbrev pub Opened : Type 0
 Opened = DeviceID × Head

@@ -3,9 +3,9 @@ use mathlib.Core.Path.{_≡_, refl}
 use mathlib.Core.Bool.{Bool, true, false}
 use mathlib.Core.Option.{Option, none, some}
 use Prim.Native.Nat.{ℕ}
-use native.Mathlib.Omega.{arith}
 use lib.Dec.{leb}
 use Rattle.util.specs.Pick.{pick}
+use Rattle.util.proofs.Laws.Options.{some-none}
 use Rattle.messages.specs.declared.refusal.Refusal.{Refusal}
 use Rattle.messages.specs.declared.refusal.Refusal.the-variants.{High, Long, Value, Kind, Space, Shape, Head, Field, Sum, Hold, Stream, Index, UnexpectedEnd, ByteOverflow, NotImplemented}
 
@@ -43,12 +43,6 @@ least (some a) none = some a
 least (some a) (some b) = pick (leb (rank a) (rank b)) (some a) (some b)
 
 -- ---- their laws
-
-pub none-some : {A : Type 0} {a : A} → none ≡ some a → ⊥
-none-some e = let z : _≡_ {A = ℕ} 0 1 = cc in omega arith
-
-pub some-none : {A : Type 0} {a : A} → some a ≡ none → ⊥
-some-none e = let z : _≡_ {A = ℕ} 0 1 = cc in omega arith
 
 pick-some : (t : Bool) (a b : Refusal) → pick t (some a) (some b) ≡ none → ⊥
 pick-some true a b e = some-none e

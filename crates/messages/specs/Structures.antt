@@ -1,13 +1,11 @@
 -- The fields of tunings and identity replies, and the loop types.
 use mathlib.Core.Path.{_≡_, refl}
-use mathlib.Core.Bool.{true}
 use mathlib.Core.Option.{none}
 use mathlib.Core.List.{List, [], _∷_}
 use Prim.Native.Nat.{ℕ, _<_}
 use native.Mathlib.Omega.{arith}
 use lib.Dec.{leb, lit<}
 use lib.ListN.{length}
-use lib.IntN.{ℤ}
 use borrow.Author.Tests.{le-leb}
 use Rattle.messages.specs.declared.refusal.Refusal.the-variants.{Long}
 use Rattle.messages.specs.declared.«sample_dump».LoopType.{LoopType}
@@ -20,9 +18,12 @@ use Rattle.messages.specs.declared.tuning.KeyTuning.{KeyTuning}
 use Rattle.messages.specs.declared.tuning.Scale1Byte.{Scale1Byte}
 use Rattle.messages.specs.declared.tuning.Scale2Byte.{Scale2Byte}
 use Rattle.messages.specs.declared.«system_exclusive».IdentityReply.{IdentityReply}
+use Rattle.messages.specs.declared.«system_exclusive».SoftwareRevision.{SoftwareRevision}
+use Rattle.messages.specs.declared.«system_exclusive».ManufacturerID.{ManufacturerID}
+use Rattle.messages.specs.declared.«system_exclusive».ManufacturerID.the-variants.{OneByte, Extended}
 use Rattle.messages.specs.Refusals.{unless}
-use Rattle.messages.specs.format.{Part, Whole, _⊗_, Tag, tagged, Names, _named_, refusing, exactly, counted, all-settled}
-use Rattle.messages.specs.Fields.{u7, u14, s7, s14, tuning, maker}
+use Rattle.messages.specs.format.{Part, Whole, _⊗_, tagged, _named_, refusing, exactly, counted, all-settled, end, Either, left, right, either, _namedW_}
+use Rattle.messages.specs.Fields.{u7, u14, s7, s14, tuning, one-byte-maker, extended-maker}
 
 -- "128 tunings": "Entry i past the given list is i, 00, 00; entries past 128 are ignored"
 abbrev pub keys : Part (List MaybeTuning)
@@ -80,21 +81,46 @@ scale-2 =
       from-to = λ s. refl;
     }
 
+-- "family, member (u14 each), four u7"
+abbrev pub AfterMaker : Type 0
+AfterMaker = ℕ × (ℕ × (ℕ × (ℕ × (ℕ × ℕ))))
+
+abbrev pub after-maker : Part AfterMaker
+after-maker = u14 ⊗ u14 ⊗ u7 ⊗ u7 ⊗ u7 ⊗ u7
+
+abbrev pub maker-first : ManufacturerID → AfterMaker → Either (ℕ × AfterMaker) ((ℕ × ℕ) × AfterMaker)
+maker-first (OneByte b) x = left (b, x)
+maker-first (Extended a b) x = right ((a, b), x)
+
+abbrev pub reply : ManufacturerID → AfterMaker → IdentityReply
+reply m x =
+    record {
+      id = m;
+      family = x .0;
+      «family_member» = x .1 .0;
+      «software_revision» = record { first = x .1 .1 .0; second = x .1 .1 .1 .0; third = x .1 .1 .1 .1 .0; fourth = x .1 .1 .1 .1 .1 };
+    }
+
+abbrev pub reply-of : Either (ℕ × AfterMaker) ((ℕ × ℕ) × AfterMaker) → IdentityReply
+reply-of (left x) = reply (OneByte (x .0)) (x .1)
+reply-of (right x) = reply (Extended (x .0 .0) (x .0 .1)) (x .1)
+
+pub maker-back : (m : ManufacturerID) (x : AfterMaker) → reply-of (maker-first m x) ≡ reply m x
+maker-back (OneByte b) x = refl
+maker-back (Extended a b) x = refl
+
+abbrev pub revision : SoftwareRevision → ℕ × (ℕ × (ℕ × ℕ))
+revision r = (r .first, (r .second, (r .third, r .fourth)))
+
 -- "maker, family, member (u14 each), four u7"
-abbrev pub identity-reply : Part IdentityReply
+abbrev pub identity-reply : Whole IdentityReply
 identity-reply =
-    maker ⊗ u14 ⊗ u14 ⊗ u7 ⊗ u7 ⊗ u7 ⊗ u7
-    named record {
-      to = λ r. (r .id, (r .family, (r .«family_member», (r .«software_revision» .first, (r .«software_revision» .second, (r .«software_revision» .third, r .«software_revision» .fourth))))));
-      from = λ x.
-          record {
-            id = x .0;
-            family = x .1 .0;
-            «family_member» = x .1 .1 .0;
-            «software_revision» = record { first = x .1 .1 .1 .0; second = x .1 .1 .1 .1 .0; third = x .1 .1 .1 .1 .1 .0; fourth = x .1 .1 .1 .1 .1 .1 };
-          };
-      to-from = λ x. refl;
-      from-to = λ r. refl;
+    either (end (one-byte-maker ⊗ after-maker)) (end (extended-maker ⊗ after-maker)) (λ x h. refl)
+    namedW record {
+      to = λ r. maker-first (r .id) (r .family, (r .«family_member», revision (r .«software_revision»)));
+      from = reply-of;
+      to-from = elim [ left x ↦ refl | right x ↦ refl ];
+      from-to = λ r. maker-back (r .id) (r .family, (r .«family_member», revision (r .«software_revision»)));
     }
 
 -- "loop type 00, 01, 7F"

@@ -8,7 +8,7 @@ use lib.Dec.{ltb, leb}
 use lib.ListN.{take}
 use Rattle.messages.specs.declared.«file_reference».Kind.{Kind}
 use Rattle.util.specs.Pick.{pick}
-use Rattle.messages.specs.Messages.{Message, Answer, refused, given, readOf}
+use Rattle.messages.specs.Messages.{Answer, refused, given, readOf}
 
 -- "A stretch is a part of the stream, told by offset and length"
 abbrev pub Stretch : Type 0

@@ -5,3 +5,5 @@ pub mod Signed
 pub mod Checksum
 pub mod Channels
 pub mod Splice
+pub mod Options
+pub mod Packing

@@ -7,8 +7,8 @@ use mathlib.Core.List.{List, _++_}
 use Prim.Native.Nat.{ℕ}
 use native.Mathlib.Omega.{arith}
 use Rattle.util.specs.Groups.{Seven}
+use Rattle.util.proofs.Laws.Options.{none-some}
 use Rattle.messages.specs.declared.refusal.Refusal.{Refusal}
-use Rattle.messages.specs.Refusals.{none-some}
 
 -- what reading a part comes to: nothing that fits, or a value and the bytes after it
 pub data Got (A : Type 0) : Type 0 where
@@ -57,14 +57,6 @@ abbrev pub bindW : {A B : Type 0} → Got A → (A → List ℕ → Option B) �
 bindW bad k = none
 bindW (got a r) k = k a r
 
-abbrev pub guardW : {A : Type 0} → Bool → Option A → Option A
-guardW true g = g
-guardW false g = none
-
-abbrev pub mapW : {A B : Type 0} → (A → B) → Option A → Option B
-mapW f none = none
-mapW f (some a) = some (f a)
-
 -- ---- what a reading that came to something tells; each hands on what it finds
 
 pub bad-got : {A : Type 0} {a : A} {r : List ℕ} → bad ≡ got a r → ⊥
@@ -79,19 +71,7 @@ pub bind-got : {A B C : Type 0} (g : Got A) (f : A → List ℕ → Got B) {b : 
 bind-got bad f e k = absurd (bad-got e)
 bind-got (got a s) f e k = k a s refl e
 
-pub guardW-some : {A C : Type 0} (t : Bool) {g : Option A} {a : A} → guardW t g ≡ some a → (t ≡ true → g ≡ some a → C) → C
-guardW-some true e k = k refl e
-guardW-some false e k = absurd (none-some e)
-
 pub bindW-some : {A B C : Type 0} (g : Got A) (f : A → List ℕ → Option B) {b : B} → bindW g f ≡ some b
     → ((a : A) (s : List ℕ) → g ≡ got a s → f a s ≡ some b → C) → C
 bindW-some bad f e k = absurd (none-some e)
 bindW-some (got a s) f e k = k a s refl e
-
-pub mapW-some : {A B C : Type 0} (f : A → B) (g : Option A) {b : B} → mapW f g ≡ some b → ((a : A) → g ≡ some a → f a ≡ b → C) → C
-mapW-some f none e k = absurd (none-some e)
-mapW-some f (some a) e k = k a refl (cc)
-
-pub not-some : {A : Type 0} (o : Option A) → ((a : A) → o ≡ some a → ⊥) → o ≡ none
-not-some none k = refl
-not-some (some a) k = absurd (k a refl)

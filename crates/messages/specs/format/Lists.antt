@@ -1,22 +1,23 @@
 -- Lists of one format: so many of them, cut and filled; a number and then so many, cut; and all the bytes that are left.
 -- A list is tested over what is written of it; a test over the whole of it, before any cut, is put on by `refusing`.
 use mathlib.Core.Path.{_≡_, refl, sym, subst, ap, ap₂, _∙_}
-use mathlib.Core.Bool.{true}
 use mathlib.Core.Option.{Option, none, some}
 use mathlib.Core.List.{List, [], _∷_, _++_, append-assoc}
-use Prim.Native.Nat.{ℕ, zero, suc, _<_, _≤_}
+use Prim.Native.Nat.{ℕ, zero, suc, _<_}
 use native.Mathlib.Nat.{le-of-eq}
 use native.Mathlib.Omega.{arith}
 use lib.Dec.{ltb}
-use lib.ListN.{length, take}
+use lib.ListN.{length, take, length-take}
 use lib.Seq.{take-all, take-nil}
 use borrow.Author.Tests.{ltb-true, lt-ltb}
 use Rattle.util.specs.Groups.{Seven, seven}
 use Rattle.util.proofs.Laws.Groups.{seven-append, seven-true, true-seven}
+use Rattle.util.specs.Options.{only-if}
+use Rattle.util.proofs.Laws.Options.{only-if-some}
 use Rattle.messages.specs.declared.refusal.Refusal.{Refusal}
 use Rattle.messages.specs.declared.refusal.Refusal.the-variants.{High}
 use Rattle.messages.specs.Refusals.{least, unless, least-none, none-both, unless-none}
-use Rattle.messages.specs.format.Core.{Got, bad, got, guard, bind, guardW, Part, Whole, bad-got, guard-got, bind-got, guardW-some}
+use Rattle.messages.specs.format.Core.{Got, bad, got, guard, bind, Part, Whole, bad-got, guard-got, bind-got}
 
 module _ {A : Type 0} (p : Part A) where
   abbrev pub all-refuse : List A → Option Refusal
@@ -69,40 +70,46 @@ module _ {A : Type 0} (p : Part A) where
       subst (λ (l : List A). (length l ≡ suc n) × all-settled l × (all-bytes l ++ r ≡ bs)) y
       (ap suc (g .0), (f .0, g .1), rw (append-assoc, ← z, g .2, f .1))
 
+  pub all-keeps : (l : List A) → all-refuse l ≡ none → all-settled (all-settle l)
+  all-keeps [] e = tt
+  all-keeps (x ∷ l) e = let z = least-none (p .refuses x) (all-refuse l) e in (p .keeps x (z .0), all-keeps l (z .1))
+
+  pub all-length : (l : List A) → length (all-settle l) ≡ length l
+  all-length [] = refl
+  all-length (x ∷ l) = ap suc (all-length l)
+
   -- ---- n of them: what is over is dropped, and what is missing is filled by place
 
   module _ (n : ℕ) (fill : ℕ → A) (fill-none : (i : ℕ) → p .refuses (fill i) ≡ none) where
-    abbrev pub cut : ℕ → ℕ → List A → List A
-    cut i zero l = []
-    cut i (suc k) [] = p .settle (fill i) ∷ cut (suc i) k []
-    cut i (suc k) (x ∷ xs) = p .settle x ∷ cut (suc i) k xs
+    -- k of them from place i on
+    abbrev pub filled : ℕ → ℕ → List A → List A
+    filled i zero l = []
+    filled i (suc k) [] = fill i ∷ filled (suc i) k []
+    filled i (suc k) (x ∷ l) = x ∷ filled (suc i) k l
 
-    pub cut-length : (i k : ℕ) (l : List A) → length (cut i k l) ≡ k
-    cut-length i zero l = refl
-    cut-length i (suc k) [] = ap suc (cut-length (suc i) k [])
-    cut-length i (suc k) (x ∷ xs) = ap suc (cut-length (suc i) k xs)
+    pub filled-length : (i k : ℕ) (l : List A) → length (filled i k l) ≡ k
+    filled-length i zero l = refl
+    filled-length i (suc k) [] = ap suc (filled-length (suc i) k [])
+    filled-length i (suc k) (x ∷ l) = ap suc (filled-length (suc i) k l)
 
-    pub cut-settled : (i k : ℕ) (l : List A) → all-refuse (take k l) ≡ none → all-settled (cut i k l)
-    cut-settled i zero l e = tt
-    cut-settled i (suc k) [] e = (p .keeps (fill i) (fill-none i), cut-settled (suc i) k [] (rw (take-nil k)))
-    cut-settled i (suc k) (x ∷ xs) e =
-        let z = least-none (p .refuses x) (all-refuse (take k xs)) e in
-        (p .keeps x (z .0), cut-settled (suc i) k xs (z .1))
+    pub filled-none : (i k : ℕ) (l : List A) → all-refuse (take k l) ≡ none → all-refuse (filled i k l) ≡ none
+    filled-none i zero l e = refl
+    filled-none i (suc k) [] e = none-both (fill-none i) (filled-none (suc i) k [] (rw (take-nil k)))
+    filled-none i (suc k) (x ∷ l) e =
+        let z = least-none (p .refuses x) (all-refuse (take k l)) e in
+        none-both (z .0) (filled-none (suc i) k l (z .1))
 
-    pub cut-same : (i k : ℕ) (l : List A) → length l ≡ k → cut i k l ≡ all-settle l
-    cut-same i zero [] e = refl
-    cut-same i zero (x ∷ l) e = absurd (omega arith)
-    cut-same i (suc k) [] e = absurd (omega arith)
-    cut-same i (suc k) (x ∷ l) e = ap (λ (m : List A). p .settle x ∷ m) (cut-same (suc i) k l (omega arith))
+    pub filled-same : (i k : ℕ) (l : List A) → length l ≡ k → filled i k l ≡ l
+    filled-same i zero [] e = refl
+    filled-same i zero (x ∷ l) e = absurd (omega arith)
+    filled-same i (suc k) [] e = absurd (omega arith)
+    filled-same i (suc k) (x ∷ l) e = ap (λ (m : List A). x ∷ m) (filled-same (suc i) k l (omega arith))
 
-    pub exactly-stays : (l : List A) → (length l ≡ n) × all-settled l → (all-refuse (take n l) ≡ none) × (cut 0 n l ≡ l)
+    pub exactly-stays : (l : List A) → (length l ≡ n) × all-settled l → (all-refuse (take n l) ≡ none) × (all-settle (filled 0 n l) ≡ l)
     exactly-stays l h = (
       ap all-refuse (take-all n l (le-of-eq (h .0))) ∙ all-stays l (h .1) .0,
-      cut-same 0 n l (h .0) ∙ all-stays l (h .1) .1,
+      ap all-settle (filled-same 0 n l (h .0)) ∙ all-stays l (h .1) .1,
     )
-
-    pub exactly-back : (l : List A) (r : List ℕ) → (length l ≡ n) × all-settled l → all-read n (all-bytes l ++ r) ≡ got l r
-    exactly-back l r h = rw (← (h .0), all-back l r (h .1))
 
     pub exactly-only : (bs : List ℕ) (l : List A) (r : List ℕ) → all-read n bs ≡ got l r → ((length l ≡ n) × all-settled l) × (all-bytes l ++ r ≡ bs)
     exactly-only bs l r e = let g = all-only n bs l r e in ((g .0, g .1), g .2)
@@ -111,54 +118,28 @@ module _ {A : Type 0} (p : Part A) where
     exactly =
         record {
           refuses = λ l. all-refuse (take n l);
-          settle = cut 0 n;
+          settle = λ l. all-settle (filled 0 n l);
           settled = λ l. (length l ≡ n) × all-settled l;
           bytes = all-bytes;
           read = all-read n;
-          keeps = λ l e. (cut-length 0 n l, cut-settled 0 n l e);
+          keeps = λ l e. (all-length (filled 0 n l) ∙ filled-length 0 n l, all-keeps (filled 0 n l) (filled-none 0 n l e));
           stays = exactly-stays;
           low = λ l h. all-low l (h .1);
-          back = exactly-back;
+          back = λ l r h. rw (← (h .0), all-back l r (h .1));
           only = exactly-only;
         }
 
   -- ---- a number, at most 127, and then so many: what is over is dropped
 
-  abbrev pub first-ones : ℕ → List A → List A
-  first-ones zero l = []
-  first-ones (suc n) [] = []
-  first-ones (suc n) (x ∷ l) = p .settle x ∷ first-ones n l
-
-  pub first-length : (n : ℕ) (l : List A) → length (first-ones n l) ≤ n
-  first-length zero l = omega arith
-  first-length (suc n) [] = omega arith
-  first-length (suc n) (x ∷ l) = omega (arith, first-length n l)
-
-  pub first-settled : (n : ℕ) (l : List A) → all-refuse (take n l) ≡ none → all-settled (first-ones n l)
-  first-settled zero l e = tt
-  first-settled (suc n) [] e = tt
-  first-settled (suc n) (x ∷ l) e =
-      let z = least-none (p .refuses x) (all-refuse (take n l)) e in
-      (p .keeps x (z .0), first-settled n l (z .1))
-
-  pub first-same : (n : ℕ) (l : List A) → length l ≤ n → first-ones n l ≡ all-settle l
-  first-same zero [] h = refl
-  first-same zero (x ∷ l) h = absurd (omega arith)
-  first-same (suc n) [] h = refl
-  first-same (suc n) (x ∷ l) h = ap (λ (m : List A). p .settle x ∷ m) (first-same n l (omega arith))
-
   abbrev pub read-counted : List ℕ → Got (List A)
   read-counted [] = bad
   read-counted (n ∷ bs) = guard (ltb n 128) (all-read n bs)
 
-  pub counted-keeps : (l : List A) → all-refuse (take 127 l) ≡ none → (length (first-ones 127 l) < 128) × all-settled (first-ones 127 l)
-  counted-keeps l e = (omega (arith, first-length 127 l), first-settled 127 l e)
+  pub counted-keeps : (l : List A) → all-refuse (take 127 l) ≡ none → (length (all-settle (take 127 l)) < 128) × all-settled (all-settle (take 127 l))
+  counted-keeps l e = (omega (arith, all-length (take 127 l), length-take 127 l), all-keeps (take 127 l) e)
 
-  pub counted-stays : (l : List A) → (length l < 128) × all-settled l → (all-refuse (take 127 l) ≡ none) × (first-ones 127 l ≡ l)
-  counted-stays l h = (
-    ap all-refuse (take-all 127 l (omega arith)) ∙ all-stays l (h .1) .0,
-    first-same 127 l (omega arith) ∙ all-stays l (h .1) .1,
-  )
+  pub counted-stays : (l : List A) → (length l < 128) × all-settled l → (all-refuse (take 127 l) ≡ none) × (all-settle (take 127 l) ≡ l)
+  counted-stays l h = rw (take-all 127 l (omega arith)) (all-stays l (h .1))
 
   pub counted-back : (l : List A) (r : List ℕ) → (length l < 128) × all-settled l → read-counted (length l ∷ all-bytes l ++ r) ≡ got l r
   counted-back l r h = rw (lt-ltb _ _ (h .0), all-back l r (h .1))
@@ -175,7 +156,7 @@ module _ {A : Type 0} (p : Part A) where
   counted =
       record {
         refuses = λ l. all-refuse (take 127 l);
-        settle = first-ones 127;
+        settle = λ l. all-settle (take 127 l);
         settled = λ l. (length l < 128) × all-settled l;
         bytes = λ l. length l ∷ all-bytes l;
         read = read-counted;
@@ -188,8 +169,8 @@ module _ {A : Type 0} (p : Part A) where
 
 -- ---- all the bytes that are left, each below 128
 
-pub rest-only : (bs l : List ℕ) → guardW (seven bs) (some bs) ≡ some l → Seven l × (l ≡ bs)
-rest-only bs l e = guardW-some (seven bs) e λ t e₁. let y : l ≡ bs = cc in (rw y (seven-true bs t), y)
+pub rest-only : (bs l : List ℕ) → only-if (seven bs) (some bs) ≡ some l → Seven l × (l ≡ bs)
+rest-only bs l e = only-if-some (seven bs) e λ t e₁. let y : l ≡ bs = cc in (rw y (seven-true bs t), y)
 
 abbrev pub rest : Whole (List ℕ)
 rest =
@@ -198,7 +179,7 @@ rest =
       settle = λ l. l;
       settled = Seven;
       bytes = λ l. l;
-      read = λ bs. guardW (seven bs) (some bs);
+      read = λ bs. only-if (seven bs) (some bs);
       keeps = λ l e. seven-true l (unless-none High (seven l) e);
       stays = λ l h. (ap (unless High) (true-seven l h), refl);
       low = λ l h. h;

@@ -1,7 +1,6 @@
 -- Numbers as bytes: k groups lowest first, k groups highest first, a byte held to a range.
-use mathlib.Core.Path.{_≡_, refl, sym, subst, ap, _∙_}
-use mathlib.Core.Bool.{true}
-use mathlib.Core.Option.{Option, none, some}
+use mathlib.Core.Path.{_≡_, refl, subst}
+use mathlib.Core.Option.{none}
 use mathlib.Core.List.{List, [], _∷_, _++_}
 use Prim.Native.Nat.{ℕ, _+_, _^_, _-_, _<_, _≤_, min, max}
 use native.Mathlib.Omega.{arith}

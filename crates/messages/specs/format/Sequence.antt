@@ -1,6 +1,5 @@
 -- Formats one after another, a constant before one, one at the end, and the empty format.
 use mathlib.Core.Path.{_≡_, refl, sym, subst, ap₂, _∙_}
-use mathlib.Core.Bool.{Bool, true, false}
 use mathlib.Core.Option.{Option, none, some}
 use mathlib.Core.List.{List, [], _∷_, _++_, append-assoc, append-nil}
 use Prim.Native.Nat.{ℕ}
@@ -8,8 +7,11 @@ use lib.Dec.{eqb}
 use borrow.Author.Tests.{eqb-true, eq-eqb}
 use Rattle.util.specs.Groups.{Seven}
 use Rattle.util.proofs.Laws.Groups.{seven-append}
-use Rattle.messages.specs.Refusals.{least, least-none, none-both, none-some}
-use Rattle.messages.specs.format.Core.{Got, bad, got, bind, guardW, bindW, mapW, Part, Whole, bad-got, bind-got, guardW-some, bindW-some, mapW-some}
+use Rattle.util.specs.Options.{map-option, only-if}
+use Rattle.util.proofs.Laws.Options.{map-option-some, none-some, only-if-some}
+use Rattle.messages.specs.Refusals.{least, least-none, none-both}
+use Rattle.messages.specs.format.Views.{via}
+use Rattle.messages.specs.format.Core.{Got, bad, got, bind, bindW, Part, Whole, bad-got, bind-got, bindW-some}
 
 -- ---- one after another
 
@@ -58,7 +60,7 @@ module _ {A B : Type 0} (p : Part A) (q : Part B) where
 
 module _ {A B : Type 0} (p : Part A) (q : Whole B) where
   abbrev pub read-pairW : List ℕ → Option (A × B)
-  read-pairW bs = bindW (p .read bs) λ a s. mapW (λ b. (a, b)) (q .read s)
+  read-pairW bs = bindW (p .read bs) λ a s. map-option (λ b. (a, b)) (q .read s)
 
   pub pairW-stays : (x : A × B) → p .settled (x .0) × q .settled (x .1) → (least (p .refuses (x .0)) (q .refuses (x .1)) ≡ none) × (_≡_ {A = A × B} (p .settle (x .0), q .settle (x .1)) x)
   pairW-stays x h = (
@@ -75,7 +77,7 @@ module _ {A B : Type 0} (p : Part A) (q : Whole B) where
   pub pairW-only : (bs : List ℕ) (x : A × B) → read-pairW bs ≡ some x
       → (p .settled (x .0) × q .settled (x .1)) × (p .bytes (x .0) ++ q .bytes (x .1) ≡ bs)
   pairW-only bs x e =
-      bindW-some (p .read bs) _ e λ a s d e₁. mapW-some _ (q .read s) e₁ λ b d₁ y.
+      bindW-some (p .read bs) _ e λ a s d e₁. map-option-some _ (q .read s) e₁ λ b d₁ y.
       let f = p .only bs a s d in
       let g = q .only s b d₁ in
       subst (λ (x : A × B). (p .settled (x .0) × q .settled (x .1)) × (p .bytes (x .0) ++ q .bytes (x .1) ≡ bs)) y
@@ -132,12 +134,12 @@ module _ {A : Type 0} (p : Part A) where
         only = end-only;
       }
 
--- ---- a constant before a part
+-- ---- a constant
 
 abbrev pub strip : List ℕ → List ℕ → Option (List ℕ)
 strip [] bs = some bs
 strip (c ∷ cs) [] = none
-strip (c ∷ cs) (b ∷ bs) = guardW (eqb c b) (strip cs bs)
+strip (c ∷ cs) (b ∷ bs) = only-if (eqb c b) (strip cs bs)
 
 pub strip-back : (cs r : List ℕ) → strip cs (cs ++ r) ≡ some r
 strip-back [] r = refl
@@ -146,7 +148,7 @@ strip-back (c ∷ cs) r = rw (eq-eqb c c refl, strip-back cs r)
 pub strip-only : (cs bs r : List ℕ) → strip cs bs ≡ some r → cs ++ r ≡ bs
 strip-only [] bs r e = cc
 strip-only (c ∷ cs) [] r e = absurd (none-some e)
-strip-only (c ∷ cs) (b ∷ bs) r e = guardW-some (eqb c b) e λ t e₁. ap₂ (λ (x : ℕ) (l : List ℕ). x ∷ l) (eqb-true c b t) (strip-only cs bs r e₁)
+strip-only (c ∷ cs) (b ∷ bs) r e = only-if-some (eqb c b) e λ t e₁. ap₂ (λ (x : ℕ) (l : List ℕ). x ∷ l) (eqb-true c b t) (strip-only cs bs r e₁)
 
 abbrev pub after : {A : Type 0} → Option (List ℕ) → (List ℕ → Got A) → Got A
 after none k = bad
@@ -157,47 +159,32 @@ pub after-got : {A C : Type 0} (o : Option (List ℕ)) (f : List ℕ → Got A) 
 after-got none f e k = absurd (bad-got e)
 after-got (some s) f e k = k s refl e
 
-module _ (cs : List ℕ) (cs7 : Seven cs) {A : Type 0} (p : Part A) where
-  pub lit-back : (a : A) (r : List ℕ) → p .settled a → after (strip cs ((cs ++ p .bytes a) ++ r)) (p .read) ≡ got a r
-  lit-back a r h = rw (append-assoc, strip-back cs _, p .back a r h)
+module _ (cs : List ℕ) (cs7 : Seven cs) where
+  pub constant-back : (r : List ℕ) → after (strip cs (cs ++ r)) (got (tt {0})) ≡ got tt r
+  constant-back r = rw (strip-back cs r)
 
-  pub lit-only : (bs : List ℕ) (a : A) (r : List ℕ) → after (strip cs bs) (p .read) ≡ got a r → p .settled a × ((cs ++ p .bytes a) ++ r ≡ bs)
-  lit-only bs a r e =
-      after-got (strip cs bs) (p .read) e λ s d e₁.
-      let f = p .only s a r e₁ in
-      (f .0, rw (append-assoc, f .1, strip-only cs bs s d))
+  pub constant-only : (bs : List ℕ) (u : Unit {0}) (r : List ℕ) → after (strip cs bs) (got (tt {0})) ≡ got u r → cs ++ r ≡ bs
+  constant-only bs u r e = after-got (strip cs bs) _ e λ s d e₁. let y : s ≡ r = cc in rw (← y) (strip-only cs bs s d)
 
-  abbrev pub lit : Part A
-  lit =
+  abbrev pub constant : Part (Unit {0})
+  constant =
       record {
-        refuses = p .refuses;
-        settle = p .settle;
-        settled = p .settled;
-        bytes = λ a. cs ++ p .bytes a;
-        read = λ bs. after (strip cs bs) (p .read);
-        keeps = p .keeps;
-        stays = p .stays;
-        low = λ a h. seven-append cs (p .bytes a) cs7 (p .low a h);
-        back = lit-back;
-        only = lit-only;
+        refuses = λ u. none;
+        settle = λ u. u;
+        settled = λ u. Unit {0};
+        bytes = λ u. cs;
+        read = λ bs. after (strip cs bs) (got (tt {0}));
+        keeps = λ u e. tt;
+        stays = λ u h. (refl, refl);
+        low = λ u h. cs7;
+        back = λ u r h. constant-back r;
+        only = λ bs u r e. (tt, constant-only bs u r e);
       }
 
--- ---- nothing at all
-
-pub nothing-only : (bs : List ℕ) (u : Unit {0}) (r : List ℕ) → got tt bs ≡ got u r → r ≡ bs
-nothing-only bs u r e = cc
-
+-- no bytes at all
 abbrev pub nothing : Part (Unit {0})
-nothing =
-    record {
-      refuses = λ u. none;
-      settle = λ u. u;
-      settled = λ u. Unit {0};
-      bytes = λ u. [];
-      read = λ bs. got tt bs;
-      keeps = λ u e. tt;
-      stays = λ u h. (refl, refl);
-      low = λ u h. tt;
-      back = λ u r h. refl;
-      only = λ bs u r e. (tt, nothing-only bs u r e);
-    }
+nothing = constant [] tt
+
+-- a constant, and then a part
+abbrev pub lit : (cs : List ℕ) → Seven cs → {A : Type 0} → Part A → Part A
+lit cs h p = via (λ a. (tt, a)) (λ x. x .1) (constant cs h ⊗ p) (λ x s. refl)

@@ -1,18 +1,14 @@
 -- A choice by what stands in front: a table of codes, the code as a part, and what each code is followed by.
-use mathlib.Core.Path.{_≡_, refl, sym, subst, ap, _∙_}
+use mathlib.Core.Path.{_≡_, refl, subst}
 use mathlib.Core.Bool.{Bool, true, false}
 use mathlib.Core.Option.{Option, none, some}
 use mathlib.Core.List.{List, [], _∷_, _++_}
-use Prim.Native.Nat.{ℕ, _<_, _^_}
-use native.Mathlib.Omega.{arith}
-use lib.Dec.{eqb}
-use lib.ListN.{length}
-use borrow.Author.Tests.{eqb-true, eq-eqb}
+use Prim.Native.Nat.{ℕ}
 use Rattle.util.specs.Groups.{Seven}
 use Rattle.util.proofs.Laws.Groups.{seven-append}
-use Rattle.messages.specs.declared.refusal.Refusal.{Refusal}
-use Rattle.messages.specs.Refusals.{least, unless, least-none, none-both, unless-none, none-some}
-use Rattle.messages.specs.format.Core.{Got, bad, got, guard, bind, guardW, bindW, mapW, Part, Whole, bad-got, guard-got, bind-got, guardW-some, bindW-some, mapW-some, not-some}
+use Rattle.util.specs.Options.{map-option}
+use Rattle.util.proofs.Laws.Options.{map-option-some}
+use Rattle.messages.specs.format.Core.{Got, bad, got, bindW, Part, Whole, bad-got, bindW-some}
 use Rattle.messages.specs.format.Sequence.{strip, strip-only}
 
 -- ---- a table of codes: the first entry whose code stands in front, among those that `mine` allows
@@ -77,7 +73,7 @@ module _ {T : Type 0} (k : Tag T) {F : T → Type 0} (p : (t : T) → Whole (F t
   Chosen = (t : T) × F t
 
   abbrev pub read-chosen : List ℕ → Option Chosen
-  read-chosen bs = bindW (look k bs) λ t s. mapW (λ a. (t, a)) (p t .read s)
+  read-chosen bs = bindW (look k bs) λ t s. map-option (λ a. (t, a)) (p t .read s)
 
   pub choose-stays : (x : Chosen) → p (x .0) .settled (x .1)
       → (p (x .0) .refuses (x .1) ≡ none) × (_≡_ {A = Chosen} (x .0, p (x .0) .settle (x .1)) x)
@@ -88,7 +84,7 @@ module _ {T : Type 0} (k : Tag T) {F : T → Type 0} (p : (t : T) → Whole (F t
 
   pub choose-only : (bs : List ℕ) (x : Chosen) → read-chosen bs ≡ some x → p (x .0) .settled (x .1) × (k .code (x .0) ++ p (x .0) .bytes (x .1) ≡ bs)
   choose-only bs x e =
-      bindW-some (look k bs) _ e λ t s d e₁. mapW-some _ (p t .read s) e₁ λ a d₁ y.
+      bindW-some (look k bs) _ e λ t s d e₁. map-option-some _ (p t .read s) e₁ λ a d₁ y.
       let f = find-only (λ u. true) (k .code) (k .table) bs t s d in
       let g = p t .only s a d₁ in
       subst (λ (x : Chosen). p (x .0) .settled (x .1) × (k .code (x .0) ++ p (x .0) .bytes (x .1) ≡ bs)) y

@@ -1,18 +1,19 @@
 -- A refusal of what is out of range, a test on a whole, a count of the bytes that follow.
-use mathlib.Core.Path.{_≡_, refl, sym, subst, ap, _∙_}
-use mathlib.Core.Bool.{Bool, true, false}
+use mathlib.Core.Path.{_≡_, refl, sym, ap, _∙_}
+use mathlib.Core.Bool.{Bool, true}
 use mathlib.Core.Option.{Option, none, some}
-use mathlib.Core.List.{List, [], _∷_, _++_}
+use mathlib.Core.List.{List, _++_}
 use Prim.Native.Nat.{ℕ, _<_, _^_}
-use native.Mathlib.Omega.{arith}
 use lib.Dec.{eqb}
 use lib.ListN.{length}
 use borrow.Author.Tests.{eqb-true, eq-eqb}
 use Rattle.util.specs.Groups.{groups}
 use Rattle.util.proofs.Laws.Groups.{seven-append, groups-seven}
+use Rattle.util.specs.Options.{only-if}
+use Rattle.util.proofs.Laws.Options.{none-some, not-some, only-if-some}
 use Rattle.messages.specs.declared.refusal.Refusal.{Refusal}
-use Rattle.messages.specs.Refusals.{least, unless, least-none, none-both, unless-none, none-some}
-use Rattle.messages.specs.format.Core.{Got, bad, got, guard, bind, guardW, bindW, mapW, Part, Whole, bad-got, guard-got, bind-got, guardW-some, bindW-some, mapW-some, not-some}
+use Rattle.messages.specs.Refusals.{least, unless, least-none, none-both, unless-none}
+use Rattle.messages.specs.format.Core.{bindW, Part, Whole, bindW-some}
 use Rattle.messages.specs.format.Numbers.{unsigned}
 
 -- ---- a refusal of a value as it is given, which no settled value meets
@@ -37,11 +38,11 @@ module _ {A : Type 0} (n : A → Option Refusal) (p : Part A) (fine : (a : A) �
 
 abbrev pub keep-if : {A : Type 0} → (A → Bool) → Option A → Option A
 keep-if test none = none
-keep-if test (some a) = guardW (test a) (some a)
+keep-if test (some a) = only-if (test a) (some a)
 
 pub keep-if-some : {A : Type 0} (test : A → Bool) (o : Option A) (a : A) → keep-if test o ≡ some a → (o ≡ some a) × (test a ≡ true)
 keep-if-some test none a e = absurd (none-some e)
-keep-if-some test (some b) a e = guardW-some (test b) e λ t e₁. let y : b ≡ a = cc in (e₁, rw (← y) t)
+keep-if-some test (some b) a e = only-if-some (test b) e λ t e₁. let y : b ≡ a = cc in (e₁, rw (← y) t)
 
 module _ {A : Type 0} (r : Refusal) (test : A → Bool) (p : Whole A) (holds : (a : A) → test a ≡ true → test (p .settle a) ≡ true) where
   pub such-keeps : (a : A) → least (unless r (test a)) (p .refuses a) ≡ none → p .settled (p .settle a) × (test (p .settle a) ≡ true)

@@ -1,18 +1,11 @@
--- The same bytes for values of another type: under names, or through a value that is written.
-use mathlib.Core.Path.{_≡_, refl, sym, subst, ap, _∙_}
-use mathlib.Core.Bool.{Bool, true, false}
-use mathlib.Core.Option.{Option, none, some}
-use mathlib.Core.List.{List, [], _∷_, _++_}
-use Prim.Native.Nat.{ℕ, _<_, _^_}
-use native.Mathlib.Omega.{arith}
-use lib.Dec.{eqb}
-use lib.ListN.{length}
-use borrow.Author.Tests.{eqb-true, eq-eqb}
-use Rattle.util.specs.Groups.{Seven}
-use Rattle.util.proofs.Laws.Groups.{seven-append}
-use Rattle.messages.specs.declared.refusal.Refusal.{Refusal}
-use Rattle.messages.specs.Refusals.{least, unless, least-none, none-both, unless-none, none-some}
-use Rattle.messages.specs.format.Core.{Got, bad, got, guard, bind, guardW, bindW, mapW, Part, Whole, bad-got, guard-got, bind-got, guardW-some, bindW-some, mapW-some, not-some}
+-- The same bytes for values of another type: through a value that is written, or under names.
+use mathlib.Core.Path.{_≡_, subst, ap}
+use mathlib.Core.Option.{none, some}
+use mathlib.Core.List.{List, _++_}
+use Prim.Native.Nat.{ℕ}
+use Rattle.util.specs.Options.{map-option}
+use Rattle.util.proofs.Laws.Options.{map-option-some}
+use Rattle.messages.specs.format.Core.{Got, got, bind, Part, Whole, bind-got}
 
 -- ---- the same bytes for another type: `to` gives the value that is written, `from` the value that is read
 
@@ -70,36 +63,14 @@ pub record Names (A B : Type 0) : Type 0 where
 abbrev pub names : {A B : Type 0} (to : B → A) (from : A → B) → ((a : A) → to (from a) ≡ a) → ((b : B) → from (to b) ≡ b) → Names A B
 names to from e f = record { to = to; from = from; to-from = e; from-to = f }
 
-module _ {A B : Type 0} (p : Part A) (n : Names A B) where
-  pub named-only : (bs : List ℕ) (b : B) (r : List ℕ) → bind (p .read bs) (λ a s. got (n .from a) s) ≡ got b r
-      → p .settled (n .to b) × (p .bytes (n .to b) ++ r ≡ bs)
-  named-only bs b r e =
-      bind-got (p .read bs) _ e λ a s d e₁.
-      let y : n .from a ≡ b = cc in
-      let z : s ≡ r = cc in
-      let f = p .only bs a s d in
-      subst (λ (b : B). p .settled (n .to b) × (p .bytes (n .to b) ++ r ≡ bs)) y (rw (n .to-from a, ← z) f)
-
-  infixl 50 _named_
-  abbrev pub _named_ : Part B
-  _named_ =
-      record {
-        refuses = λ b. p .refuses (n .to b);
-        settle = λ b. n .from (p .settle (n .to b));
-        settled = λ b. p .settled (n .to b);
-        bytes = λ b. p .bytes (n .to b);
-        read = λ bs. bind (p .read bs) λ a r. got (n .from a) r;
-        keeps = λ b e. rw (n .to-from (p .settle (n .to b))) (p .keeps (n .to b) e);
-        stays = λ b h. (p .stays (n .to b) h .0, rw (p .stays (n .to b) h .1) (n .from-to b));
-        low = λ b h. p .low (n .to b) h;
-        back = λ b r h. rw (p .back (n .to b) r h, n .from-to b);
-        only = named-only;
-      }
+infixl 50 _named_
+abbrev pub _named_ : {A B : Type 0} → Part A → Names A B → Part B
+p named n = via (n .to) (n .from) p (λ a h. n .to-from a)
 
 module _ {A B : Type 0} (p : Whole A) (n : Names A B) where
-  pub namedW-only : (bs : List ℕ) (b : B) → mapW (n .from) (p .read bs) ≡ some b → p .settled (n .to b) × (p .bytes (n .to b) ≡ bs)
+  pub namedW-only : (bs : List ℕ) (b : B) → map-option (n .from) (p .read bs) ≡ some b → p .settled (n .to b) × (p .bytes (n .to b) ≡ bs)
   namedW-only bs b e =
-      mapW-some (n .from) (p .read bs) e λ a d y.
+      map-option-some (n .from) (p .read bs) e λ a d y.
       subst (λ (b : B). p .settled (n .to b) × (p .bytes (n .to b) ≡ bs)) y (rw (n .to-from a) (p .only bs a d))
 
   infixl 50 _namedW_
@@ -110,7 +81,7 @@ module _ {A B : Type 0} (p : Whole A) (n : Names A B) where
         settle = λ b. n .from (p .settle (n .to b));
         settled = λ b. p .settled (n .to b);
         bytes = λ b. p .bytes (n .to b);
-        read = λ bs. mapW (n .from) (p .read bs);
+        read = λ bs. map-option (n .from) (p .read bs);
         keeps = λ b e. rw (n .to-from (p .settle (n .to b))) (p .keeps (n .to b) e);
         stays = λ b h. (p .stays (n .to b) h .0, rw (p .stays (n .to b) h .1) (n .from-to b));
         low = λ b h. p .low (n .to b) h;

@@ -4,7 +4,7 @@ use mathlib.Core.List.{List}
 use Prim.Native.Nat.{ℕ}
 use Rattle.messages.specs.declared.«file_reference».FileReferenceType.{FileReferenceType}
 use Rattle.messages.specs.format.Views.{Names, names}
-use Rattle.messages.specs.Maps.{BankSelect, WAVSelect, AnySelect}
+use Rattle.messages.specs.Maps.{AnySelect}
 
 -- 0B 01 open
 pub record FileOpen : Type 0 where
@@ -17,25 +17,13 @@ file-open =
     names (λ r. (r .context, (r .type, r .url)))
     (λ x. record { context = x .0; type = x .1 .0; url = x .1 .1 }) (λ x. refl) (λ r. refl)
 
--- 0B 02 select, bank
-pub record SelectBank : Type 0 where
+-- 0B 02 select, over the maps
+pub record Select (M : Type 0) : Type 0 where
   pub context : ℕ
-  pub map : BankSelect
+  pub map : M
 
-abbrev pub select-bank : Names (ℕ × BankSelect) SelectBank
-select-bank =
-    names (λ r. (r .context, r .map))
-    (λ x. record { context = x .0; map = x .1 }) (λ x. refl) (λ r. refl)
-
--- 0B 02 select, WAV
-pub record SelectWAV : Type 0 where
-  pub context : ℕ
-  pub map : WAVSelect
-
-abbrev pub select-wav : Names (ℕ × WAVSelect) SelectWAV
-select-wav =
-    names (λ r. (r .context, r .map))
-    (λ x. record { context = x .0; map = x .1 }) (λ x. refl) (λ r. refl)
+abbrev pub select : {M : Type 0} → Names (ℕ × M) (Select M)
+select = names (λ r. (r .context, r .map)) (λ x. record { context = x .0; map = x .1 }) (λ x. refl) (λ r. refl)
 
 -- 0B 03 open and select
 pub record OpenSelect : Type 0 where

@@ -32,15 +32,15 @@ sample-packet =
     names (λ r. (r .count, r .samples))
     (λ x. record { count = x .0; samples = x .1 }) (λ x. refl) (λ r. refl)
 
--- 05 01 loop transmission
-pub record LoopTransmission : Type 0 where
+-- 05 01 and 05 06 loop transmission, over the loop types
+pub record LoopTransmission (T : Type 0) : Type 0 where
   pub sample : ℕ
   pub loop-number : LoopNumber
-  pub loop-type : LoopType
+  pub loop-type : T
   pub start : ℕ
   pub end : ℕ
 
-abbrev pub loop-transmission : Names (ℕ × (LoopNumber × (LoopType × (ℕ × ℕ)))) LoopTransmission
+abbrev pub loop-transmission : {T : Type 0} → Names (ℕ × (LoopNumber × (T × (ℕ × ℕ)))) (LoopTransmission T)
 loop-transmission =
     names (λ r. (r .sample, (r .loop-number, (r .loop-type, (r .start, r .end)))))
     (λ x. record { sample = x .0; loop-number = x .1 .0; loop-type = x .1 .1 .0; start = x .1 .1 .1 .0; end = x .1 .1 .1 .1 }) (λ x. refl) (λ r. refl)
@@ -81,16 +81,3 @@ abbrev pub extended-header : Names (ℕ × (ℕ × (ℕ × (ℕ × (ℕ × (ℕ 
 extended-header =
     names (λ r. (r .sample, (r .format, (r .rate-whole, (r .rate-fraction, (r .length, (r .loop-start, (r .loop-end, (r .loop-type, r .channels)))))))))
     (λ x. record { sample = x .0; format = x .1 .0; rate-whole = x .1 .1 .0; rate-fraction = x .1 .1 .1 .0; length = x .1 .1 .1 .1 .0; loop-start = x .1 .1 .1 .1 .1 .0; loop-end = x .1 .1 .1 .1 .1 .1 .0; loop-type = x .1 .1 .1 .1 .1 .1 .1 .0; channels = x .1 .1 .1 .1 .1 .1 .1 .1 }) (λ x. refl) (λ r. refl)
-
--- 05 06 loop transmission
-pub record ExtendedTransmission : Type 0 where
-  pub sample : ℕ
-  pub loop-number : LoopNumber
-  pub loop-type : ExtendedLoopType
-  pub start : ℕ
-  pub end : ℕ
-
-abbrev pub extended-transmission : Names (ℕ × (LoopNumber × (ExtendedLoopType × (ℕ × ℕ)))) ExtendedTransmission
-extended-transmission =
-    names (λ r. (r .sample, (r .loop-number, (r .loop-type, (r .start, r .end)))))
-    (λ x. record { sample = x .0; loop-number = x .1 .0; loop-type = x .1 .1 .0; start = x .1 .1 .1 .0; end = x .1 .1 .1 .1 }) (λ x. refl) (λ r. refl)

@@ -1,9 +1,6 @@
 use borrow.Author.Needs.{needs}
 use Rattle.messages.proofs.file_reference.FileReferenceMsg.head.Statement.{statement}
 use Rattle.messages.proofs.file_reference.FileReferenceMsg.head.Tie as tie
-use Rattle.messages.proofs.file_reference.FileReferenceMsg.head.Reads as reads
-use Rattle.messages.proofs.file_reference.FileReferenceMsg.head.Lts as lts
-use Rattle.messages.proofs.file_reference.SelectMap.head.Reads as head-reads
 
 -- src/file_reference.rt:143:46
 enum-told : tie.Need-enum-told

@@ -3,15 +3,6 @@ use Rattle.messages.proofs.system_exclusive.UniversalNonRealTimeMsg.hea
   statement,
 }
 use Rattle.messages.proofs.system_exclusive.UniversalNonRealTimeMsg.head.Tie as tie
-use Rattle.messages.proofs.system_exclusive.UniversalNonRealTimeMsg.head.Reads as reads
-use Rattle.messages.proofs.system_exclusive.UniversalNonRealTimeMsg.head.Lts as lts
-use Rattle.messages.proofs.file_dump.FileDumpMsg.head.Reads as file-dump-FileDumpMsg-head-reads
-use Rattle.messages.proofs.file_reference.FileReferenceMsg.head.Reads as file-reference-FileReferenceMsg-head-reads
-use Rattle.messages.proofs.general_midi.GeneralMidi.head.Reads as general-midi-GeneralMidi-head-reads
-use Rattle.messages.proofs.sample_dump.ExtendedSampleDumpMsg.head.Reads as sample-dump-ExtendedSampleDumpMsg-head-reads
-use Rattle.messages.proofs.sample_dump.SampleDumpMsg.head.Reads as sample-dump-SampleDumpMsg-head-reads
-use Rattle.messages.proofs.system_exclusive.keys_head.Reads as keys-head-reads
-use Rattle.messages.proofs.system_exclusive.request_head.Reads as request-head-reads
 
 -- src/system_exclusive.rt:94:49
 enum-known-self : tie.Need-enum-known-self
