@@ -5,14 +5,12 @@ use mathlib.Core.Option.{Option, none}
 use mathlib.Core.List.{List, [], _∷_}
 use Prim.Native.Nat.{ℕ}
 use lib.ListN.{take}
-use Rattle.messages.specs.declared.refusal.Refusal.{Refusal}
-use Rattle.messages.specs.declared.head.Head.{Head}
+use Rattle.util.proofs.Laws.Options.{least-by-left}
+use Rattle.messages.specs.Types.{Refusal, Head, ManufacturerID, FileReferenceType}
 use Rattle.messages.specs.declared.head.Head.the-variants.{SampleDumpHeader, SampleDumpPacket, SampleDumpRequest, LoopPointTransmission, LoopPointsRequest, SampleName, SampleNameRequest, ExtendedHeader, ExtendedLoopPointTransmission, ExtendedLoopPointsRequest, IdentityRequest, IdentityReply, FileDumpHeader, FileDumpPacket, FileDumpRequest, TuningBulkDumpRequest, KeyBasedTuningDump, BankTuningBulkDumpRequest, BankKeyBasedTuningDump, ScaleTuningDump1Byte, ScaleTuningDump2Byte, TuningNoteChange, ScaleTuning1Byte, ScaleTuning2Byte, GeneralMidi1, GeneralMidiOff, GeneralMidi2, FileReferenceOpen, SelectSoundFile, SelectWAV, FileReferenceOpenSelect, FileReferenceClose, EOF, Wait, Cancel, NAK, ACK}
-use Rattle.messages.specs.declared.«system_exclusive».ManufacturerID.{ManufacturerID}
 use Rattle.messages.specs.declared.«system_exclusive».ManufacturerID.the-variants.{OneByte, Extended}
-use Rattle.messages.specs.declared.«file_reference».FileReferenceType.{FileReferenceType}
 use Rattle.messages.specs.declared.«file_reference».FileReferenceType.the-variants.{DLS, SF2, WAV}
-use Rattle.messages.specs.Refusals.{least, least-left}
+use Rattle.messages.specs.Refusals.{rank, least}
 use Rattle.messages.specs.format.{Part, all-refuse}
 use Rattle.messages.specs.Fields.{u7, tuning, high, type-bytes}
 use Rattle.messages.specs.Structures.{key-tuning, most-changes, AfterMaker, reply, revision, identity-reply}
@@ -29,7 +27,7 @@ all-none p h (x ∷ l) = rw (h x, all-none p h l)
 
 -- a refusal and, after it, a list that is never refused
 then-list : {A : Type 0} (p : Part A) → ((a : A) → p .refuses a ≡ none) → (r : Option Refusal) (l : List A) → least r (all-refuse p l) ≡ r
-then-list p h r l = rw (all-none p h l) (least-left r)
+then-list p h r l = rw (all-none p h l) (least-by-left rank r)
 
 -- a name, tested whole, and then a list that is never refused
 name-list : {A : Type 0} (p : Part A) → ((a : A) → p .refuses a ≡ none) → (n : List ℕ) (k : ℕ) (l : List A)
@@ -37,10 +35,10 @@ name-list : {A : Type 0} (p : Part A) → ((a : A) → p .refuses a ≡ none) �
 name-list p h n k l = ap (λ (r : Option Refusal). least r (all-refuse p l)) (then-list u7 (λ a. refl) (high n) (take k n)) ∙ then-list p h (high n) l
 
 name-then : (n : List ℕ) (k : ℕ) → least (least (high n) (all-refuse u7 (take k n))) none ≡ high n
-name-then n k = least-left _ ∙ then-list u7 (λ a. refl) (high n) (take k n)
+name-then n k = least-by-left rank _ ∙ then-list u7 (λ a. refl) (high n) (take k n)
 
 reply-same : (m : ManufacturerID) (x : AfterMaker) → identity-reply .refuses (reply m x) ≡ zero-maker m
-reply-same (OneByte b) x = least-left _ ∙ least-left _
+reply-same (OneByte b) x = least-by-left rank _ ∙ least-by-left rank _
 reply-same (Extended a b) x = refl
 
 bank-none : (x : BankSelect) → bank-select .refuses x ≡ none
@@ -60,15 +58,15 @@ map-same WAV (bankSelect x) = refl
 map-same WAV (wavSelect x) = wav-none x
 
 two-values : (a b : Option Refusal) → least (least a none) (least (least b none) none) ≡ least a b
-two-values a b = ap₂ least (least-left a) (least-left (least b none) ∙ least-left b)
+two-values a b = ap₂ least (least-by-left rank a) (least-by-left rank (least b none) ∙ least-by-left rank b)
 
 contents-same : (h : Head) (f : Fields h) → form h .refuses f ≡ contents h f
 contents-same SampleName f = then-list u7 (λ a. refl) (high (f .name)) (take 127 (f .name))
 contents-same ExtendedHeader f = two-values (too-large (f .rate-whole)) (too-large (f .rate-fraction))
 contents-same IdentityReply f = reply-same (f .id) (f .family, (f .«family_member», revision (f .«software_revision»)))
-contents-same FileDumpHeader f = rw (least-left (high (type-bytes (f .type))), least-left (too-large (f .length)))
+contents-same FileDumpHeader f = rw (least-by-left rank (high (type-bytes (f .type))), least-by-left rank (too-large (f .length)))
 contents-same FileDumpPacket f = refl
-contents-same FileDumpRequest f = rw (least-left (high (type-bytes (f .type))))
+contents-same FileDumpRequest f = rw (least-by-left rank (high (type-bytes (f .type))))
 contents-same KeyBasedTuningDump f = name-list tuning (λ a. refl) (f .name) 16 (take 128 (f .tunings))
 contents-same BankKeyBasedTuningDump f = name-list tuning (λ a. refl) (f .name) 16 (take 128 (f .tunings))
 contents-same ScaleTuningDump1Byte f = name-then (f .name) 16

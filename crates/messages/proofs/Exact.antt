@@ -15,10 +15,7 @@ use Rattle.util.specs.Groups.{Seven, seven}
 use Rattle.util.specs.Checksum.{checksum, xor-from}
 use Rattle.util.proofs.Laws.Groups.{seven-append, seven-true, true-seven}
 use Rattle.util.proofs.Laws.Options.{none-some, only-if-some}
-use Rattle.messages.specs.declared.refusal.Refusal.{Refusal}
-use Rattle.messages.specs.declared.head.Head.{Head}
-use Rattle.messages.specs.declared.«file_reference».Kind.{Kind}
-use Rattle.messages.specs.declared.«system_exclusive».DeviceID.{DeviceID}
+use Rattle.messages.specs.Types.{Refusal, Head, Kind, DeviceID}
 use Rattle.messages.specs.Refusals.{least-none, none-both}
 use Rattle.messages.specs.format.{Got, bad, got, bind, bad-got, bind-got, bindW-some, strip, strip-only, after-got, find, find-only}
 use Rattle.messages.specs.Fields as field

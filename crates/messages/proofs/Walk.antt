@@ -12,11 +12,23 @@ use lib.ListN.{length, take, drop}
 use lib.Seq.{drop-nil, take-nil, length-take-le}
 use borrow.Author.Tests.{ltb-true, lt-ltb, le-ltb, le-leb, lt-leb}
 use Rattle.util.specs.Groups.{Seven}
-use Rattle.messages.specs.declared.«file_reference».Kind.{Kind}
+use Rattle.messages.specs.Types.{Kind}
 use Rattle.messages.specs.Messages.{Answer, refused, given, readOf}
-use Rattle.messages.specs.Walk.{Stretch, low-run, reach, stretches, is-given, is-frame, Listed, Above, Rising, since, Ending, Enclosed, Encloses}
+use Rattle.messages.specs.Walk.{Stretch, low-run, reach, stretches, is-given, is-frame, Listed, Above, Rising, since}
 use Rattle.messages.specs.Promises.{IsFrameFor, ListedExactly, ListedRising, SameFromThere}
 use Rattle.messages.proofs.Exact.{read-settled, reads-back, frame-shaped}
+
+-- what the laws of the walk ask of a test: F0, bytes below 128, F7
+abbrev pub Ending : List ℕ → Type 0
+Ending [] = ⊥
+Ending (b ∷ r) = ((b ≡ 0xF7) × (r ≡ [])) ⊎ ((b < 128) × Ending r)
+
+abbrev pub Enclosed : List ℕ → Type 0
+Enclosed [] = ⊥
+Enclosed (b ∷ r) = (b ≡ 0xF0) × Ending r
+
+abbrev pub Encloses : (List ℕ → Bool) → Type 0
+Encloses test = (p : List ℕ) → test p ≡ true → Enclosed p
 
 pub bool-cases : (t : Bool) → (t ≡ true) ⊎ (t ≡ false)
 bool-cases true = inl refl

@@ -5,15 +5,13 @@ use Prim.Native.Nat.{ℕ}
 use lib.Dec.{leb}
 use lib.ListN.{length}
 use Rattle.util.specs.Fields.{fits-u28}
-use Rattle.messages.specs.declared.refusal.Refusal.{Refusal}
+use Rattle.util.specs.Options.{unless}
+use Rattle.messages.specs.Types.{Refusal, Head, ManufacturerID, FileReferenceType}
 use Rattle.messages.specs.declared.refusal.Refusal.the-variants.{High, Long, Value, Kind}
-use Rattle.messages.specs.declared.head.Head.{Head}
 use Rattle.messages.specs.declared.head.Head.the-variants.{SampleDumpHeader, SampleDumpPacket, SampleDumpRequest, LoopPointTransmission, LoopPointsRequest, SampleName, SampleNameRequest, ExtendedHeader, ExtendedLoopPointTransmission, ExtendedLoopPointsRequest, IdentityRequest, IdentityReply, FileDumpHeader, FileDumpPacket, FileDumpRequest, TuningBulkDumpRequest, KeyBasedTuningDump, BankTuningBulkDumpRequest, BankKeyBasedTuningDump, ScaleTuningDump1Byte, ScaleTuningDump2Byte, TuningNoteChange, ScaleTuning1Byte, ScaleTuning2Byte, GeneralMidi1, GeneralMidiOff, GeneralMidi2, FileReferenceOpen, SelectSoundFile, SelectWAV, FileReferenceOpenSelect, FileReferenceClose, EOF, Wait, Cancel, NAK, ACK}
-use Rattle.messages.specs.declared.«system_exclusive».ManufacturerID.{ManufacturerID}
 use Rattle.messages.specs.declared.«system_exclusive».ManufacturerID.the-variants.{OneByte, Extended}
-use Rattle.messages.specs.declared.«file_reference».FileReferenceType.{FileReferenceType}
 use Rattle.messages.specs.declared.«file_reference».FileReferenceType.the-variants.{DLS, SF2, WAV}
-use Rattle.messages.specs.Refusals.{unless, least}
+use Rattle.messages.specs.Refusals.{least}
 use Rattle.messages.specs.format.{most-data, is-text}
 use Rattle.messages.specs.Fields.{high, type-bytes, most-name}
 use Rattle.messages.specs.Structures.{most-changes}

@@ -1,10 +1,8 @@
 -- Lent entries: tunings, note changes and bank maps as numbers of 64 bits, one place each. Every number is some entry.
 use Prim.Native.Nat.{ℕ, _+_, _*_, _/_, _%_, _^_}
 use lib.Dec.{ltb}
-use Rattle.messages.specs.declared.tuning.MaybeTuning.{MaybeTuning}
+use Rattle.messages.specs.Types.{MaybeTuning, KeyTuning, SoundFileMap}
 use Rattle.messages.specs.declared.tuning.MaybeTuning.the-variants.{NoTuning, Tuned}
-use Rattle.messages.specs.declared.tuning.KeyTuning.{KeyTuning}
-use Rattle.messages.specs.declared.«file_reference».SoundFileMap.{SoundFileMap}
 use Rattle.util.specs.Pick.{pick}
 use Rattle.messages.specs.Fields.{bit, is-set}
 

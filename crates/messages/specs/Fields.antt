@@ -14,20 +14,15 @@ use Rattle.util.specs.Fields.{fits-u28}
 use Rattle.util.specs.Signed.{biased, unbiased}
 use Rattle.util.proofs.Laws.Groups.{both-true, true-seven}
 use Rattle.util.proofs.Laws.Signed.{biased-unbiased}
-use Rattle.messages.specs.declared.refusal.Refusal.{Refusal}
+use Rattle.util.specs.Options.{unless}
+use Rattle.messages.specs.Types.{Refusal, DeviceID, MaybeTuning, TuningBank, LoopNumber, FileType}
 use Rattle.messages.specs.declared.refusal.Refusal.the-variants.{High, Long, Value}
-use Rattle.messages.specs.declared.«system_exclusive».DeviceID.{DeviceID}
 use Rattle.messages.specs.declared.«system_exclusive».DeviceID.the-variants.{Device, AllCall}
-use Rattle.messages.specs.declared.tuning.MaybeTuning.{MaybeTuning}
 use Rattle.messages.specs.declared.tuning.MaybeTuning.the-variants.{NoTuning, Tuned}
-use Rattle.messages.specs.declared.tuning.TuningBank.{TuningBank}
 use Rattle.messages.specs.declared.tuning.TuningBank.the-variants.{NoBank, Bank}
-use Rattle.messages.specs.declared.«sample_dump».LoopNumber.{LoopNumber}
 use Rattle.messages.specs.declared.«sample_dump».LoopNumber.the-variants.{Loop, RequestAll, DeleteAll}
-use Rattle.messages.specs.declared.«file_dump».FileType.{FileType}
 use Rattle.messages.specs.declared.«file_dump».FileType.the-variants.{MIDI, MIEX, ESEQ, TEXT, BIN, MAC, Custom}
 use Rattle.util.specs.Pick.{pick}
-use Rattle.messages.specs.Refusals.{unless}
 use Rattle.messages.specs.format.{Part, Whole, unsigned, unsigned-high, unsigned-high-below, ranged, _⊗_, lit, via, _named_, refusing, such, exactly, counted, rest, all-settled, text, lookup, lookup-same}
 
 -- ---- numbers

@@ -4,16 +4,15 @@ use mathlib.Core.List.{List, [], _∷_, map}
 use mathlib.Core.Path.{refl}
 use Prim.Native.Nat.{ℕ}
 use lib.ListN.{length}
-use Rattle.messages.specs.declared.head.Head.{Head}
+use Rattle.messages.specs.Types.{Head, Kind}
 use Rattle.messages.specs.declared.head.Head.the-variants.{SampleDumpHeader, SampleDumpPacket, SampleDumpRequest, LoopPointTransmission, LoopPointsRequest, SampleName, SampleNameRequest, ExtendedHeader, ExtendedLoopPointTransmission, ExtendedLoopPointsRequest, IdentityRequest, IdentityReply, FileDumpHeader, FileDumpPacket, FileDumpRequest, TuningBulkDumpRequest, KeyBasedTuningDump, BankTuningBulkDumpRequest, BankKeyBasedTuningDump, ScaleTuningDump1Byte, ScaleTuningDump2Byte, TuningNoteChange, ScaleTuning1Byte, ScaleTuning2Byte, GeneralMidi1, GeneralMidiOff, GeneralMidi2, FileReferenceOpen, SelectSoundFile, SelectWAV, FileReferenceOpenSelect, FileReferenceClose, EOF, Wait, Cancel, NAK, ACK}
-use Rattle.messages.specs.declared.«file_reference».Kind.{Kind}
 use Rattle.messages.specs.declared.«file_reference».Kind.the-variants.{Bank, WAV}
 use Rattle.messages.specs.format.{Whole, _⊗_, _⊗w_, end, nothing, _named_, _namedW_, sized, exactly, packed}
 use Rattle.messages.specs.Fields.{u7, u14, u21, u28, u35, format, channels, device, loop-requested, loop-transmitted, zero-then, file-type, sample-name, name-of-16, file-name, bank-or-none}
 use Rattle.messages.specs.Structures.{keys, note-changes, scale-1, scale-2, identity-reply, loop-type, extended-loop-type}
 use Rattle.messages.specs.Entries.{tuning-entry, change-entry, map-entry}
 use Rattle.messages.specs.Maps.{BankSelect, mapList, mapOffset, AnySelect, bankSelect, wavSelect, bank-select, bank-length, bank-short, wav-select, wav-length, wav-short, type-url, type-url-short, type-url-map, open-length, open-short}
-use Rattle.messages.specs.records.{sample-header, sample-packet, loop-transmission, loop-request, named-sample, extended-header, file-header, file-packet, file-request, bank-request, key-dump, bank-key-dump, note-change, file-open, open-select, close-context, scale-dump, scale-tuning, select}
+use Rattle.messages.specs.Records.{sample-header, sample-packet, loop-transmission, loop-request, named-sample, extended-header, file-header, file-packet, file-request, bank-request, key-dump, bank-key-dump, note-change, file-open, open-select, close-context, scale-dump, scale-tuning, select}
 
 -- a row: the head's bytes, whether a checksum ends it, the kinds of sound file that it is read for, its fields,
 -- and the file data and the entries among them, which "go to lent space, one place each"

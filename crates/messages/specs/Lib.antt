@@ -1,14 +1,14 @@
+pub mod Types
 pub mod Refusals
 pub mod format
 pub mod Fields
 pub mod Maps
 pub mod Structures
 pub mod Entries
-pub mod records
+pub mod Records
 pub mod Layouts
 pub mod Messages
 pub mod Contents
 pub mod Walk
 pub mod Promises
 pub mod MessageOf
-pub mod Defaults

@@ -1,16 +1,15 @@
 -- The maps of file references (01, 0B 02 and 0B 03): bank maps, WAV maps, offsets.
 use mathlib.Core.Path.{_≡_, refl}
-use mathlib.Core.Bool.{Bool}
+use mathlib.Core.Bool.{Bool, false}
 use mathlib.Core.Option.{none}
 use mathlib.Core.List.{List, [], _∷_, _++_}
 use Prim.Native.Nat.{ℕ, _+_, _*_, _<_, _^_}
 use native.Mathlib.Omega.{arith}
+use lib.IntN.{pos}
 use lib.ListN.{length, length-append}
 use Rattle.util.proofs.Laws.Groups.{seven-true}
+use Rattle.messages.specs.Types.{SoundFileMap, WAVMap, FileReferenceType}
 use Rattle.messages.specs.declared.refusal.Refusal.the-variants.{Kind}
-use Rattle.messages.specs.declared.«file_reference».SoundFileMap.{SoundFileMap}
-use Rattle.messages.specs.declared.«file_reference».WAVMap.{WAVMap}
-use Rattle.messages.specs.declared.«file_reference».FileReferenceType.{FileReferenceType}
 use Rattle.messages.specs.declared.«file_reference».FileReferenceType.the-variants.{DLS, SF2, WAV}
 use Rattle.messages.specs.format.{Part, Whole, _⊗_, _⊗w_, end, lit, Tag, tagged, choose, Names, _named_, _namedW_, Either, left, right, either, never, other-length, counted, all-bytes}
 use Rattle.messages.specs.Fields.{u7, u14, s14, flag, flags, url}
@@ -56,6 +55,14 @@ wav-map =
       to-from = λ x. refl;
       from-to = λ m. refl;
     }
+
+-- "The two map records have the crate's defaults"
+abbrev pub default-sound-file-map : SoundFileMap
+default-sound-file-map =
+    record { «dst_bank» = 0; «dst_prog» = 0; «src_bank» = 0; «src_prog» = 0; «src_drum» = false; «dst_drum» = false; volume = 0x7F }
+
+abbrev pub default-wav-map : WAVMap
+default-wav-map = record { «dst_bank» = 0; «dst_prog» = 0; base = 60; lokey = 0; hikey = 0x7F; fine = pos 0; volume = 0x7F }
 
 pub record BankOffset : Type 0 where
   pub bank-offset : ℕ

@@ -1,24 +1,15 @@
 -- The message that an enum of the code is, beside the text and the entries lent with it. What a message does not use of these is as if not there.
 use mathlib.Core.List.{List, map}
 use Prim.Native.Nat.{ℕ}
-use Rattle.messages.specs.declared.head.Head.{Head}
+use Rattle.messages.specs.Types.{Head, DeviceID, SampleDumpMsg, ExtendedSampleDumpMsg, FileDumpMsg, TuningBank, GeneralMidi, SelectMap, FileReferenceMsg, UniversalNonRealTimeMsg}
 use Rattle.messages.specs.declared.head.Head.the-variants as head
-use Rattle.messages.specs.declared.«system_exclusive».DeviceID.{DeviceID}
-use Rattle.messages.specs.declared.«sample_dump».SampleDumpMsg.{SampleDumpMsg}
 use Rattle.messages.specs.declared.«sample_dump».SampleDumpMsg.the-variants as sample
-use Rattle.messages.specs.declared.«sample_dump».ExtendedSampleDumpMsg.{ExtendedSampleDumpMsg}
 use Rattle.messages.specs.declared.«sample_dump».ExtendedSampleDumpMsg.the-variants as extended
-use Rattle.messages.specs.declared.«file_dump».FileDumpMsg.{FileDumpMsg}
 use Rattle.messages.specs.declared.«file_dump».FileDumpMsg.the-variants as file
-use Rattle.messages.specs.declared.tuning.TuningBank.{TuningBank}
 use Rattle.messages.specs.declared.tuning.TuningBank.the-variants.{NoBank, Bank}
-use Rattle.messages.specs.declared.«general_midi».GeneralMidi.{GeneralMidi}
 use Rattle.messages.specs.declared.«general_midi».GeneralMidi.the-variants.{GM1, Off, GM2}
-use Rattle.messages.specs.declared.«file_reference».SelectMap.{SelectMap}
 use Rattle.messages.specs.declared.«file_reference».SelectMap.the-variants as select
-use Rattle.messages.specs.declared.«file_reference».FileReferenceMsg.{FileReferenceMsg}
 use Rattle.messages.specs.declared.«file_reference».FileReferenceMsg.the-variants as reference
-use Rattle.messages.specs.declared.«system_exclusive».UniversalNonRealTimeMsg.{UniversalNonRealTimeMsg}
 use Rattle.messages.specs.declared.«system_exclusive».UniversalNonRealTimeMsg.the-variants as msg
 use Rattle.messages.specs.Entries.{tuning-of, change-of, map-of}
 use Rattle.messages.specs.Maps.{AnySelect, bankSelect, wavSelect, mapList, mapOffset, wavMap, wavMapOffset}

@@ -9,11 +9,8 @@ use lib.ListN.{length}
 use Rattle.util.specs.Groups.{seven}
 use Rattle.util.specs.Checksum.{checksum}
 use Rattle.util.specs.Options.{only-if}
-use Rattle.messages.specs.declared.refusal.Refusal.{Refusal}
+use Rattle.messages.specs.Types.{Refusal, Head, Kind, DeviceID}
 use Rattle.messages.specs.declared.refusal.Refusal.the-variants as R
-use Rattle.messages.specs.declared.head.Head.{Head}
-use Rattle.messages.specs.declared.«file_reference».Kind.{Kind}
-use Rattle.messages.specs.declared.«system_exclusive».DeviceID.{DeviceID}
 use Rattle.messages.specs.Refusals.{number, least}
 use Rattle.messages.specs.format.{Got, bad, got, bind, bindW, strip, after, find}
 use Rattle.messages.specs.Fields as field

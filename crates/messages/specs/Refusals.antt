@@ -1,12 +1,10 @@
 -- Refusals (01, "Refusals by the place of checking"): their numbers, and which of several is given.
-use mathlib.Core.Path.{_≡_, refl}
-use mathlib.Core.Bool.{Bool, true, false}
-use mathlib.Core.Option.{Option, none, some}
+use mathlib.Core.Path.{_≡_}
+use mathlib.Core.Option.{Option, none}
 use Prim.Native.Nat.{ℕ}
-use lib.Dec.{leb}
-use Rattle.util.specs.Pick.{pick}
-use Rattle.util.proofs.Laws.Options.{some-none}
-use Rattle.messages.specs.declared.refusal.Refusal.{Refusal}
+use Rattle.util.specs.Options.{least-by}
+use Rattle.util.proofs.Laws.Options.{least-by-none, none-by-both}
+use Rattle.messages.specs.Types.{Refusal}
 use Rattle.messages.specs.declared.refusal.Refusal.the-variants.{High, Long, Value, Kind, Space, Shape, Head, Field, Sum, Hold, Stream, Index, UnexpectedEnd, ByteOverflow, NotImplemented}
 
 -- the column "No."
@@ -31,35 +29,12 @@ number NotImplemented = 15
 abbrev pub rank : Refusal → ℕ
 rank r = number r
 
--- the refusal, unless the test passes
-abbrev pub unless : Refusal → Bool → Option Refusal
-unless r true = none
-unless r false = some r
-
--- of two refusals the one of the lower rank
+-- of two refusals the one that comes first
 abbrev pub least : Option Refusal → Option Refusal → Option Refusal
-least none b = b
-least (some a) none = some a
-least (some a) (some b) = pick (leb (rank a) (rank b)) (some a) (some b)
-
--- ---- their laws
-
-pick-some : (t : Bool) (a b : Refusal) → pick t (some a) (some b) ≡ none → ⊥
-pick-some true a b e = some-none e
-pick-some false a b e = some-none e
+least a b = least-by rank a b
 
 pub least-none : (a b : Option Refusal) → least a b ≡ none → (a ≡ none) × (b ≡ none)
-least-none none b e = (refl, e)
-least-none (some a) none e = absurd (some-none e)
-least-none (some a) (some b) e = absurd (pick-some (leb (rank a) (rank b)) a b e)
+least-none a b e = least-by-none rank a b e
 
 pub none-both : {a b : Option Refusal} → a ≡ none → b ≡ none → least a b ≡ none
-none-both p q = rw (p, q)
-
-pub least-left : (a : Option Refusal) → least a none ≡ a
-least-left none = refl
-least-left (some r) = refl
-
-pub unless-none : (r : Refusal) (t : Bool) → unless r t ≡ none → t ≡ true
-unless-none r true e = refl
-unless-none r false e = absurd (some-none e)
+none-both p q = none-by-both rank p q

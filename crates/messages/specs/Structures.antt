@@ -7,21 +7,13 @@ use native.Mathlib.Omega.{arith}
 use lib.Dec.{leb, lit<}
 use lib.ListN.{length}
 use borrow.Author.Tests.{le-leb}
+use Rattle.util.specs.Options.{unless}
+use Rattle.messages.specs.Types.{LoopType, ExtendedLoopType, MaybeTuning, KeyTuning, Scale1Byte, Scale2Byte, IdentityReply, SoftwareRevision, ManufacturerID}
 use Rattle.messages.specs.declared.refusal.Refusal.the-variants.{Long}
-use Rattle.messages.specs.declared.«sample_dump».LoopType.{LoopType}
 use Rattle.messages.specs.declared.«sample_dump».LoopType.the-variants.{Forward, BiDirectional, Off}
-use Rattle.messages.specs.declared.«sample_dump».ExtendedLoopType.{ExtendedLoopType}
 use Rattle.messages.specs.declared.«sample_dump».ExtendedLoopType.the-variants as ext
-use Rattle.messages.specs.declared.tuning.MaybeTuning.{MaybeTuning}
 use Rattle.messages.specs.declared.tuning.MaybeTuning.the-variants.{Tuned}
-use Rattle.messages.specs.declared.tuning.KeyTuning.{KeyTuning}
-use Rattle.messages.specs.declared.tuning.Scale1Byte.{Scale1Byte}
-use Rattle.messages.specs.declared.tuning.Scale2Byte.{Scale2Byte}
-use Rattle.messages.specs.declared.«system_exclusive».IdentityReply.{IdentityReply}
-use Rattle.messages.specs.declared.«system_exclusive».SoftwareRevision.{SoftwareRevision}
-use Rattle.messages.specs.declared.«system_exclusive».ManufacturerID.{ManufacturerID}
 use Rattle.messages.specs.declared.«system_exclusive».ManufacturerID.the-variants.{OneByte, Extended}
-use Rattle.messages.specs.Refusals.{unless}
 use Rattle.messages.specs.format.{Part, Whole, _⊗_, tagged, _named_, refusing, exactly, counted, all-settled, end, Either, left, right, either, _namedW_}
 use Rattle.messages.specs.Fields.{u7, u14, s7, s14, tuning, one-byte-maker, extended-maker}
 

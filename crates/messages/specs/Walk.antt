@@ -6,7 +6,7 @@ use mathlib.Core.List.{List, [], _∷_}
 use Prim.Native.Nat.{ℕ, suc, _-_, _<_}
 use lib.Dec.{ltb, leb}
 use lib.ListN.{take}
-use Rattle.messages.specs.declared.«file_reference».Kind.{Kind}
+use Rattle.messages.specs.Types.{Kind}
 use Rattle.util.specs.Pick.{pick}
 use Rattle.messages.specs.Messages.{Answer, refused, given, readOf}
 
@@ -59,15 +59,3 @@ Rising (y ∷ ys) = Above (y .0) ys × Rising ys
 unfoldable pub since : ℕ → List Stretch → List Stretch
 since a [] = []
 since a (y ∷ ys) = pick (leb a (y .0)) ((y .0 - a, y .1) ∷ since a ys) (since a ys)
-
--- what the laws of the walk ask of a test: F0, bytes below 128, F7
-abbrev pub Ending : List ℕ → Type 0
-Ending [] = ⊥
-Ending (b ∷ r) = ((b ≡ 0xF7) × (r ≡ [])) ⊎ ((b < 128) × Ending r)
-
-abbrev pub Enclosed : List ℕ → Type 0
-Enclosed [] = ⊥
-Enclosed (b ∷ r) = (b ≡ 0xF0) × Ending r
-
-abbrev pub Encloses : (List ℕ → Bool) → Type 0
-Encloses test = (p : List ℕ) → test p ≡ true → Enclosed p

@@ -1,7 +1,7 @@
 // File references (CA-018, CA-028). The URL is lent beside these as text, the maps of a sound file as entries.
 use super::head::Head;
 ghost use mathlib.Core.Path.{_≡_};
-ghost use Rattle.messages.specs.Defaults.{default-sound-file-map, default-wav-map};
+ghost use Rattle.messages.specs.Maps.{default-sound-file-map, default-wav-map};
 ghost use Rattle.messages.specs.Entries.{map-entry, map-of};
 ghost use Rattle.messages.specs.MessageOf.{head-select, head-reference};
 

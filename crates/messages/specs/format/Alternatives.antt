@@ -6,7 +6,7 @@ use Prim.Native.Nat.{ℕ}
 use Rattle.util.specs.Groups.{Seven}
 use Rattle.util.specs.Options.{map-option}
 use Rattle.util.proofs.Laws.Options.{map-option-some, none-some, some-none}
-use Rattle.messages.specs.declared.refusal.Refusal.{Refusal}
+use Rattle.messages.specs.Types.{Refusal}
 use Rattle.messages.specs.format.Core.{Whole}
 
 -- ---- one of two wholes, the first if it reads

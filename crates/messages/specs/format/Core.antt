@@ -8,7 +8,7 @@ use Prim.Native.Nat.{ℕ}
 use native.Mathlib.Omega.{arith}
 use Rattle.util.specs.Groups.{Seven}
 use Rattle.util.proofs.Laws.Options.{none-some}
-use Rattle.messages.specs.declared.refusal.Refusal.{Refusal}
+use Rattle.messages.specs.Types.{Refusal}
 
 -- what reading a part comes to: nothing that fits, or a value and the bytes after it
 pub data Got (A : Type 0) : Type 0 where

@@ -12,11 +12,11 @@ use lib.Seq.{take-all, take-nil}
 use borrow.Author.Tests.{ltb-true, lt-ltb}
 use Rattle.util.specs.Groups.{Seven, seven}
 use Rattle.util.proofs.Laws.Groups.{seven-append, seven-true, true-seven}
-use Rattle.util.specs.Options.{only-if}
-use Rattle.util.proofs.Laws.Options.{only-if-some}
-use Rattle.messages.specs.declared.refusal.Refusal.{Refusal}
+use Rattle.util.specs.Options.{only-if, unless}
+use Rattle.util.proofs.Laws.Options.{only-if-some, unless-none}
+use Rattle.messages.specs.Types.{Refusal}
 use Rattle.messages.specs.declared.refusal.Refusal.the-variants.{High}
-use Rattle.messages.specs.Refusals.{least, unless, least-none, none-both, unless-none}
+use Rattle.messages.specs.Refusals.{least, least-none, none-both}
 use Rattle.messages.specs.format.Core.{Got, bad, got, guard, bind, Part, Whole, bad-got, guard-got, bind-got}
 
 module _ {A : Type 0} (p : Part A) where

@@ -8,13 +8,12 @@ use lib.Dec.{eqb, leb, lit<}
 use lib.ListN.{length}
 use borrow.Author.Tests.{eqb-true, eq-eqb, leb-true, le-leb}
 use Rattle.util.specs.Groups.{Seven, seven}
-use Rattle.util.specs.Options.{only-if}
+use Rattle.util.specs.Options.{only-if, unless}
 use Rattle.util.specs.Packing.{pack, unpack, Bytes}
 use Rattle.util.proofs.Laws.Groups.{seven-true, true-seven}
-use Rattle.util.proofs.Laws.Options.{none-some, only-if-some}
+use Rattle.util.proofs.Laws.Options.{none-some, only-if-some, unless-none}
 use Rattle.util.proofs.Laws.Packing.{unpack-pack, unpack-only, pack-seven}
 use Rattle.messages.specs.declared.refusal.Refusal.the-variants.{Long}
-use Rattle.messages.specs.Refusals.{unless, unless-none}
 use Rattle.messages.specs.format.Core.{Whole}
 
 -- ---- the count byte, and the packed data

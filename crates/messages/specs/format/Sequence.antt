@@ -9,21 +9,21 @@ use Rattle.util.specs.Groups.{Seven}
 use Rattle.util.proofs.Laws.Groups.{seven-append}
 use Rattle.util.specs.Options.{map-option, only-if}
 use Rattle.util.proofs.Laws.Options.{map-option-some, none-some, only-if-some}
+use Rattle.messages.specs.Types.{Refusal}
 use Rattle.messages.specs.Refusals.{least, least-none, none-both}
 use Rattle.messages.specs.format.Views.{via}
 use Rattle.messages.specs.format.Core.{Got, bad, got, bind, bindW, Part, Whole, bad-got, bind-got, bindW-some}
 
 -- ---- one after another
 
+-- what two formats keep of a pair
+pub both-stay : {A B : Type 0} {a a′ : A} {b b′ : B} {r s : Option Refusal} → (r ≡ none) × (a′ ≡ a) → (s ≡ none) × (b′ ≡ b)
+    → (least r s ≡ none) × (_≡_ {A = A × B} (a′, b′) (a, b))
+both-stay p q = (none-both (p .0) (q .0), λ i. (p .1 i, q .1 i))
+
 module _ {A B : Type 0} (p : Part A) (q : Part B) where
   abbrev pub read-pair : List ℕ → Got (A × B)
   read-pair bs = bind (p .read bs) λ a s. bind (q .read s) λ b r. got (a, b) r
-
-  pub pair-stays : (x : A × B) → p .settled (x .0) × q .settled (x .1) → (least (p .refuses (x .0)) (q .refuses (x .1)) ≡ none) × (_≡_ {A = A × B} (p .settle (x .0), q .settle (x .1)) x)
-  pair-stays x h = (
-    none-both (p .stays (x .0) (h .0) .0) (q .stays (x .1) (h .1) .0),
-    λ i. (p .stays (x .0) (h .0) .1 i, q .stays (x .1) (h .1) .1 i),
-  )
 
   pub pair-keeps : (x : A × B) → least (p .refuses (x .0)) (q .refuses (x .1)) ≡ none → p .settled (p .settle (x .0)) × q .settled (q .settle (x .1))
   pair-keeps x e = let z = least-none (p .refuses (x .0)) (q .refuses (x .1)) e in (p .keeps (x .0) (z .0), q .keeps (x .1) (z .1))
@@ -52,21 +52,16 @@ module _ {A B : Type 0} (p : Part A) (q : Part B) where
         bytes = λ x. p .bytes (x .0) ++ q .bytes (x .1);
         read = read-pair;
         keeps = pair-keeps;
-        stays = pair-stays;
+        stays = λ x h. both-stay (p .stays (x .0) (h .0)) (q .stays (x .1) (h .1));
         low = λ x h. seven-append (p .bytes (x .0)) (q .bytes (x .1)) (p .low (x .0) (h .0)) (q .low (x .1) (h .1));
         back = pair-back;
         only = pair-only;
       }
 
+-- the second takes all that is left
 module _ {A B : Type 0} (p : Part A) (q : Whole B) where
   abbrev pub read-pairW : List ℕ → Option (A × B)
   read-pairW bs = bindW (p .read bs) λ a s. map-option (λ b. (a, b)) (q .read s)
-
-  pub pairW-stays : (x : A × B) → p .settled (x .0) × q .settled (x .1) → (least (p .refuses (x .0)) (q .refuses (x .1)) ≡ none) × (_≡_ {A = A × B} (p .settle (x .0), q .settle (x .1)) x)
-  pairW-stays x h = (
-    none-both (p .stays (x .0) (h .0) .0) (q .stays (x .1) (h .1) .0),
-    λ i. (p .stays (x .0) (h .0) .1 i, q .stays (x .1) (h .1) .1 i),
-  )
 
   pub pairW-keeps : (x : A × B) → least (p .refuses (x .0)) (q .refuses (x .1)) ≡ none → p .settled (p .settle (x .0)) × q .settled (q .settle (x .1))
   pairW-keeps x e = let z = least-none (p .refuses (x .0)) (q .refuses (x .1)) e in (p .keeps (x .0) (z .0), q .keeps (x .1) (z .1))
@@ -93,7 +88,7 @@ module _ {A B : Type 0} (p : Part A) (q : Whole B) where
         bytes = λ x. p .bytes (x .0) ++ q .bytes (x .1);
         read = read-pairW;
         keeps = pairW-keeps;
-        stays = pairW-stays;
+        stays = λ x h. both-stay (p .stays (x .0) (h .0)) (q .stays (x .1) (h .1));
         low = λ x h. seven-append (p .bytes (x .0)) (q .bytes (x .1)) (p .low (x .0) (h .0)) (q .low (x .1) (h .1));
         back = pairW-back;
         only = pairW-only;

@@ -9,10 +9,10 @@ use lib.ListN.{length}
 use borrow.Author.Tests.{eqb-true, eq-eqb}
 use Rattle.util.specs.Groups.{groups}
 use Rattle.util.proofs.Laws.Groups.{seven-append, groups-seven}
-use Rattle.util.specs.Options.{only-if}
-use Rattle.util.proofs.Laws.Options.{none-some, not-some, only-if-some}
-use Rattle.messages.specs.declared.refusal.Refusal.{Refusal}
-use Rattle.messages.specs.Refusals.{least, unless, least-none, none-both, unless-none}
+use Rattle.util.specs.Options.{only-if, unless}
+use Rattle.util.proofs.Laws.Options.{none-some, not-some, only-if-some, unless-none}
+use Rattle.messages.specs.Types.{Refusal}
+use Rattle.messages.specs.Refusals.{least, least-none, none-both}
 use Rattle.messages.specs.format.Core.{bindW, Part, Whole, bindW-some}
 use Rattle.messages.specs.format.Numbers.{unsigned}
 

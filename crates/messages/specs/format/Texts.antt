@@ -5,15 +5,16 @@ use mathlib.Core.Option.{none}
 use mathlib.Core.List.{List, [], _∷_, _++_}
 use Prim.Native.Nat.{ℕ, zero, suc, _<_, _≤_}
 use native.Mathlib.Omega.{arith}
-use lib.Dec.{ltb, lit<}
+use lib.Dec.{ltb, leb, lit<}
 use lib.ListN.{length, take}
 use lib.Seq.{take-all}
-use borrow.Author.Tests.{ltb-true, lt-ltb}
+use borrow.Author.Tests.{ltb-true, lt-ltb, leb-true, le-leb}
 use Rattle.util.specs.Groups.{Seven}
 use Rattle.util.proofs.Laws.Groups.{both-true}
+use Rattle.util.specs.Options.{unless}
+use Rattle.util.proofs.Laws.Options.{unless-none}
 use Rattle.messages.specs.declared.refusal.Refusal.the-variants.{High}
 use Rattle.util.specs.Pick.{pick}
-use Rattle.messages.specs.Refusals.{unless, unless-none}
 use Rattle.messages.specs.format.Core.{Got, bad, got, guard, bind, Part, bad-got, guard-got, bind-got}
 
 -- ---- a text: bytes 1 to 127, the first n of them, and 00
@@ -27,13 +28,15 @@ abbrev pub Text : List ℕ → Type 0
 Text [] = Unit {0}
 Text (b ∷ l) = (0 < b) × (b < 128) × Text l
 
+-- the bytes 1 to 127 up to a 00
+abbrev pub up-to-zero : List ℕ → Got (List ℕ)
+up-to-zero [] = bad
+up-to-zero (zero ∷ bs) = got [] bs
+up-to-zero (suc b ∷ bs) = guard (ltb (suc b) 128) (bind (up-to-zero bs) λ l r. got (suc b ∷ l) r)
+
+-- a text of at most n bytes
 abbrev pub read-text : ℕ → List ℕ → Got (List ℕ)
-read-text zero [] = bad
-read-text (suc n) [] = bad
-read-text zero (zero ∷ bs) = got [] bs
-read-text zero (suc b ∷ bs) = bad
-read-text (suc n) (zero ∷ bs) = got [] bs
-read-text (suc n) (suc b ∷ bs) = guard (ltb (suc b) 128) (bind (read-text n bs) λ l r. got (suc b ∷ l) r)
+read-text n bs = bind (up-to-zero bs) λ l r. guard (leb (length l) n) (got l r)
 
 pub is-text-true : (l : List ℕ) → is-text l ≡ true → Text l
 is-text-true [] e = tt
@@ -56,32 +59,36 @@ pub text-low : (l : List ℕ) → Text l → Seven (l ++ (0 ∷ []))
 text-low [] h = (lit< tt, tt)
 text-low (b ∷ l) h = (h .1, text-low l (h .2))
 
-pub read-text-back : (n : ℕ) (l r : List ℕ) → Text l × (length l ≤ n) → read-text n ((l ++ (0 ∷ [])) ++ r) ≡ got l r
-read-text-back zero [] r h = refl
-read-text-back (suc n) [] r h = refl
-read-text-back zero (b ∷ l) r h = absurd (omega arith)
-read-text-back (suc n) (zero ∷ l) r h = absurd (omega arith)
-read-text-back (suc n) (suc b ∷ l) r h = rw (lt-ltb (suc b) 128 (h .0 .1), read-text-back n l r (h .0 .2, omega arith))
+pub up-to-zero-back : (l r : List ℕ) → Text l → up-to-zero ((l ++ (0 ∷ [])) ++ r) ≡ got l r
+up-to-zero-back [] r h = refl
+up-to-zero-back (zero ∷ l) r h = absurd (omega arith)
+up-to-zero-back (suc b ∷ l) r h = rw (lt-ltb (suc b) 128 (h .1), up-to-zero-back l r (h .2))
 
-pub read-text-only : (n : ℕ) (bs l r : List ℕ) → read-text n bs ≡ got l r → (Text l × (length l ≤ n)) × ((l ++ (0 ∷ [])) ++ r ≡ bs)
-read-text-only zero [] l r e = absurd (bad-got e)
-read-text-only (suc n) [] l r e = absurd (bad-got e)
-read-text-only zero (zero ∷ bs) l r e =
+pub up-to-zero-only : (bs l r : List ℕ) → up-to-zero bs ≡ got l r → Text l × ((l ++ (0 ∷ [])) ++ r ≡ bs)
+up-to-zero-only [] l r e = absurd (bad-got e)
+up-to-zero-only (zero ∷ bs) l r e =
     let y : [] ≡ l = cc in
     let z : r ≡ bs = cc in
-    subst (λ (l : List ℕ). (Text l × (length l ≤ 0)) × ((l ++ (0 ∷ [])) ++ r ≡ 0 ∷ bs)) y ((tt, omega arith), ap (λ (m : List ℕ). 0 ∷ m) z)
-read-text-only zero (suc b ∷ bs) l r e = absurd (bad-got e)
-read-text-only (suc n) (zero ∷ bs) l r e =
-    let y : [] ≡ l = cc in
-    let z : r ≡ bs = cc in
-    subst (λ (l : List ℕ). (Text l × (length l ≤ suc n)) × ((l ++ (0 ∷ [])) ++ r ≡ 0 ∷ bs)) y ((tt, omega arith), ap (λ (m : List ℕ). 0 ∷ m) z)
-read-text-only (suc n) (suc b ∷ bs) l r e =
-    guard-got (ltb (suc b) 128) e λ t e₁. bind-got (read-text n bs) _ e₁ λ m s d e₂.
+    subst (λ (l : List ℕ). Text l × ((l ++ (0 ∷ [])) ++ r ≡ 0 ∷ bs)) y (tt, ap (λ (m : List ℕ). 0 ∷ m) z)
+up-to-zero-only (suc b ∷ bs) l r e =
+    guard-got (ltb (suc b) 128) e λ t e₁. bind-got (up-to-zero bs) _ e₁ λ m s d e₂.
     let y : suc b ∷ m ≡ l = cc in
     let z : s ≡ r = cc in
-    let f = read-text-only n bs m s d in
-    subst (λ (l : List ℕ). (Text l × (length l ≤ suc n)) × ((l ++ (0 ∷ [])) ++ r ≡ suc b ∷ bs)) y
-    (((omega arith, ltb-true (suc b) 128 t, f .0 .0), omega (arith, f .0 .1)), rw (← z) (ap (λ (m : List ℕ). suc b ∷ m) (f .1)))
+    let f = up-to-zero-only bs m s d in
+    subst (λ (l : List ℕ). Text l × ((l ++ (0 ∷ [])) ++ r ≡ suc b ∷ bs)) y
+    ((omega arith, ltb-true (suc b) 128 t, f .0), rw (← z) (ap (λ (m : List ℕ). suc b ∷ m) (f .1)))
+
+pub read-text-back : (n : ℕ) (l r : List ℕ) → Text l × (length l ≤ n) → read-text n ((l ++ (0 ∷ [])) ++ r) ≡ got l r
+read-text-back n l r h = rw (up-to-zero-back l r (h .0), le-leb (length l) n (h .1))
+
+pub read-text-only : (n : ℕ) (bs l r : List ℕ) → read-text n bs ≡ got l r → (Text l × (length l ≤ n)) × ((l ++ (0 ∷ [])) ++ r ≡ bs)
+read-text-only n bs l r e =
+    bind-got (up-to-zero bs) _ e λ m s d e₁. guard-got (leb (length m) n) e₁ λ t e₂.
+    let y : m ≡ l = cc in
+    let z : s ≡ r = cc in
+    let f = up-to-zero-only bs m s d in
+    subst (λ (l : List ℕ). (Text l × (length l ≤ n)) × ((l ++ (0 ∷ [])) ++ r ≡ bs)) y
+    ((f .0, leb-true (length m) n t), rw (← z) (f .1))
 
 pub text-keeps : (n : ℕ) (l : List ℕ) → unless High (is-text l) ≡ none → Text (take n l) × (length (take n l) ≤ n)
 text-keeps n l e = text-take n l (is-text-true l (unless-none High (is-text l) e))
