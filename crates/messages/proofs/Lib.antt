@@ -4,3 +4,4 @@ pub mod Rows
 pub mod Sums
 pub mod Contents
 pub mod Walk
+pub mod Worked
