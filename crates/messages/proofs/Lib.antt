@@ -5,3 +5,4 @@ pub mod Sums
 pub mod Contents
 pub mod Walk
 pub mod Worked
+pub mod Formats

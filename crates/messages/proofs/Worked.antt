@@ -1,12 +1,12 @@
 -- The worked frames of 01 ("Frames worked out"), and a frame for each kind of field that the laws do not pin, held against the definitions.
 -- Assumes nothing.
 use mathlib.Core.Path.{_≡_, refl}
-use mathlib.Core.Bool.{true, false}
+use mathlib.Core.Bool.{true}
 use mathlib.Core.List.{List, [], _∷_, _++_}
 use Prim.Native.Nat.{ℕ}
 use lib.IntN.{pos, negsuc}
 use lib.ListN.{getD, take, drop, replicate}
-use Rattle.messages.specs.Types.{Refusal, Kind, WAVMap}
+use Rattle.messages.specs.Types.{Refusal, Kind, WAVMap, ManufacturerID}
 use Rattle.messages.specs.declared.refusal.Refusal.the-variants.{High, Long, Value, Shape, Field, Sum}
 use Rattle.messages.specs.declared.refusal.Refusal.the-variants as R
 use Rattle.messages.specs.declared.«file_reference».Kind.the-variants as kind
@@ -37,6 +37,7 @@ pub data Line : Type 0 where
   reads : ℕ → Kind → List ℕ → Message → Line
   refuses-read : ℕ → Kind → List ℕ → Refusal → Line
   lists : ℕ → Kind → List ℕ → List Stretch → Line
+  settles : Message → Message → Line
 
 -- the bytes of a frame
 abbrev pub frame-bytes : Answer (List ℕ) → List ℕ
@@ -51,6 +52,7 @@ Holds (refuses n m r) = writeOf m ≡ refused r
 Holds (reads n k bs m) = readOf k bs ≡ given m
 Holds (refuses-read n k bs r) = readOf k bs ≡ refused r
 Holds (lists n k s l) = frames k s ≡ l
+Holds (settles m n) = settle m ≡ n
 
 abbrev pub All : List Line → Type 0
 All [] = Unit {0}
@@ -159,3 +161,36 @@ pub field-kinds :
     ∷ [])
 unfolding writeOf refusal settle readOf
 field-kinds = (refl, (refl, (refl, (refl, (refl, (refl, (refl, (refl, (refl, (refl, (refl, (refl, (refl, (refl, (refl, (refl, (refl, (refl, (refl, (refl, (refl, (refl, (refl, (refl, (refl, (refl, (refl, (refl, (refl, (refl, tt))))))))))))))))))))))))))))))
+
+-- ---- the clauses of "A settled message"
+
+abbrev pub reply-from : ManufacturerID → Message
+reply-from m =
+    messageOf AllCall (msg.IdentityReply (record { id = m; family = 0; «family_member» = 0; «software_revision» = record { first = 0; second = 0; third = 0; fourth = 0 } })) [] []
+
+pub settled-forms :
+    All
+    ( -- all call for device 127, and for a larger one
+    settles (messageOf (Device 127) msg.EOF [] []) (messageOf AllCall msg.EOF [] [])
+    ∷ settles (messageOf (Device 200) msg.EOF [] []) (messageOf AllCall msg.EOF [] [])
+    ∷ settles (messageOf (Device 126) msg.EOF [] []) (messageOf (Device 126) msg.EOF [] [])
+    -- a named type where the four bytes spell one
+    ∷ settles (messageOf AllCall (msg.FileDump (file.Request (Device 127) (Custom 0x4D 0x49 0x44 0x49))) [] []) (messageOf AllCall (msg.FileDump (file.Request AllCall MIDI)) [] [])
+    -- no tuning for 7F 7F 7F, from any tuning that is held there; a bank for none
+    ∷ settles (messageOf AllCall (msg.TuningNoteChange (record { «tuning_bank_num» = NoBank; «tuning_program_num» = 0 })) [] (8339455 ∷ 16777215 ∷ []))
+    (messageOf AllCall (msg.TuningNoteChange (record { «tuning_bank_num» = Bank 0; «tuning_program_num» = 0 })) [] (16777216 ∷ 16777216 ∷ []))
+    -- a maker byte held to 7C
+    ∷ settles (reply-from (OneByte 0x7D)) (reply-from (OneByte 0x7C))
+    -- loop number 16,383: request all in 05 02 and 05 07, delete all in 05 01 and 05 06
+    ∷ settles (messageOf AllCall (msg.SampleDump (sample.LoopPointsRequest 0 (Loop 16383))) [] []) (messageOf AllCall (msg.SampleDump (sample.LoopPointsRequest 0 RequestAll)) [] [])
+    ∷ settles (messageOf AllCall (msg.ExtendedSampleDump (extended.LoopPointsRequest 0 DeleteAll)) [] []) (messageOf AllCall (msg.ExtendedSampleDump (extended.LoopPointsRequest 0 RequestAll)) [] [])
+    ∷ settles (messageOf AllCall (msg.SampleDump (sample.LoopPointTransmission 0 (Loop 65535) Off 0 0)) [] []) (messageOf AllCall (msg.SampleDump (sample.LoopPointTransmission 0 DeleteAll Off 0 0)) [] [])
+    ∷ settles (messageOf AllCall (msg.ExtendedSampleDump (extended.LoopPointTransmission 0 RequestAll OneShot 0 0)) [] []) (messageOf AllCall (msg.ExtendedSampleDump (extended.LoopPointTransmission 0 DeleteAll OneShot 0 0)) [] [])
+    -- format held to 8..28
+    ∷ settles (messageOf AllCall (msg.SampleDump (sample.Header 0 7 0 0 0 0 Off)) [] []) (messageOf AllCall (msg.SampleDump (sample.Header 0 8 0 0 0 0 Off)) [] [])
+    ∷ settles (messageOf AllCall (msg.SampleDump (sample.Header 0 29 0 0 0 0 Off)) [] []) (messageOf AllCall (msg.SampleDump (sample.Header 0 28 0 0 0 0 Off)) [] [])
+    -- device 7F is read as all call
+    ∷ reads 0 kind.Bank (0xF0 ∷ 0x7E ∷ 0x7F ∷ 0x7B ∷ 0x00 ∷ 0xF7 ∷ []) (messageOf AllCall msg.EOF [] [])
+    ∷ [])
+unfolding settle readOf
+settled-forms = (refl, (refl, (refl, (refl, (refl, (refl, (refl, (refl, (refl, (refl, (refl, (refl, (refl, tt)))))))))))))

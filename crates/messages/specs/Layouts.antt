@@ -1,15 +1,14 @@
 -- The layouts of 01, "The frame and its layouts": a row for each head. Writing, settling, refusing, reading and finding follow from this table.
 use mathlib.Core.Bool.{Bool, true, false}
 use mathlib.Core.List.{List, [], _∷_, map}
-use mathlib.Core.Path.{refl}
 use Prim.Native.Nat.{ℕ}
 use lib.ListN.{length}
 use Rattle.messages.specs.Types.{Head, Kind}
 use Rattle.messages.specs.declared.head.Head.the-variants.{SampleDumpHeader, SampleDumpPacket, SampleDumpRequest, LoopPointTransmission, LoopPointsRequest, SampleName, SampleNameRequest, ExtendedHeader, ExtendedLoopPointTransmission, ExtendedLoopPointsRequest, IdentityRequest, IdentityReply, FileDumpHeader, FileDumpPacket, FileDumpRequest, TuningBulkDumpRequest, KeyBasedTuningDump, BankTuningBulkDumpRequest, BankKeyBasedTuningDump, ScaleTuningDump1Byte, ScaleTuningDump2Byte, TuningNoteChange, ScaleTuning1Byte, ScaleTuning2Byte, GeneralMidi1, GeneralMidiOff, GeneralMidi2, FileReferenceOpen, SelectSoundFile, SelectWAV, FileReferenceOpenSelect, FileReferenceClose, EOF, Wait, Cancel, NAK, ACK}
 use Rattle.messages.specs.declared.«file_reference».Kind.the-variants.{Bank, WAV}
-use Rattle.messages.specs.format.{Whole, _⊗_, _⊗w_, end, nothing, _named_, _namedW_, sized, exactly, packed}
+use Rattle.messages.specs.format.{Whole, _⊗_, _⊗w_, end, nothing, _named_, _namedW_, sized, packed}
 use Rattle.messages.specs.Fields.{u7, u14, u21, u28, u35, format, channels, device, loop-requested, loop-transmitted, zero-then, file-type, sample-name, name-of-16, file-name, bank-or-none}
-use Rattle.messages.specs.Structures.{keys, note-changes, scale-1, scale-2, identity-reply, loop-type, extended-loop-type}
+use Rattle.messages.specs.Structures.{samples, keys, note-changes, scale-1, scale-2, identity-reply, loop-type, extended-loop-type}
 use Rattle.messages.specs.Entries.{tuning-entry, change-entry, map-entry}
 use Rattle.messages.specs.Maps.{BankSelect, mapList, mapOffset, AnySelect, bankSelect, wavSelect, bank-select, bank-length, bank-short, wav-select, wav-length, wav-short, type-url, type-url-short, type-url-map, open-length, open-short}
 use Rattle.messages.specs.Records.{sample-header, sample-packet, loop-transmission, loop-request, named-sample, extended-header, file-header, file-packet, file-request, bank-request, key-dump, bank-key-dump, note-change, file-open, open-select, close-context, scale-dump, scale-tuning, select}
@@ -69,7 +68,7 @@ abbrev pub layout : Head → Layout
 -- 01 sample header: nn, format held to 8..28, period, length, loop start, loop end (u21 each), loop type 00, 01, 7F
 layout SampleDumpHeader = row (0x01 ∷ []) (end (u14 ⊗ format ⊗ u21 ⊗ u21 ⊗ u21 ⊗ u21 ⊗ loop-type named sample-header))
 -- 02 sample packet: count (u7), 120 bytes (u7 each, zero-filled, surplus dropped), cs
-layout SampleDumpPacket = row-cs (0x02 ∷ []) (end (u7 ⊗ exactly u7 120 (λ i. 0) (λ i. refl) named sample-packet))
+layout SampleDumpPacket = row-cs (0x02 ∷ []) (end (u7 ⊗ samples named sample-packet))
 -- 03 request: nn
 layout SampleDumpRequest = row (0x03 ∷ []) (end u14)
 -- 05 01 loop transmission: nn, loop number (u14; "all" is 7F 7F), type, start, end (u21)

@@ -17,6 +17,10 @@ use Rattle.messages.specs.declared.«system_exclusive».ManufacturerID.t
 use Rattle.messages.specs.format.{Part, Whole, _⊗_, tagged, _named_, refusing, exactly, counted, all-settled, end, Either, left, right, either, _namedW_}
 use Rattle.messages.specs.Fields.{u7, u14, s7, s14, tuning, one-byte-maker, extended-maker}
 
+-- "120 bytes (u7 each, zero-filled, surplus dropped)"
+abbrev pub samples : Part (List ℕ)
+samples = exactly u7 120 (λ i. 0) (λ i. refl)
+
 -- "128 tunings": "Entry i past the given list is i, 00, 00; entries past 128 are ignored"
 abbrev pub keys : Part (List MaybeTuning)
 keys = exactly tuning 128 (λ i. Tuned (record { semitone = i; fraction = 0 })) (λ i. refl)

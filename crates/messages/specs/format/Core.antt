@@ -43,6 +43,10 @@ pub record Whole (A : Type 0) : Type 1 where
   pub back : (a : A) → settled a → read (bytes a) ≡ some a
   pub only : (bs : List ℕ) (a : A) → read bs ≡ some a → settled a × (bytes a ≡ bs)
 
+-- the bytes that are written of a value
+abbrev pub written : {A : Type 0} → Part A → A → List ℕ
+written p a = p .bytes (p .settle a)
+
 -- ---- readings one after another
 
 abbrev pub guard : {A : Type 0} → Bool → Got A → Got A
