@@ -1,5 +1,5 @@
 -- Lent entries: tunings, note changes and bank maps as numbers of 64 bits, one place each. Every number is some entry.
-use Prim.Native.Nat.{ℕ, _+_, _*_, _/_, _%_, _^_}
+use Prim.Native.Nat.{ℕ, _+_, _*_, _/_, _%_, _^_, min}
 use lib.Dec.{ltb}
 use Rattle.messages.specs.Types.{MaybeTuning, KeyTuning, SoundFileMap}
 use Rattle.messages.specs.declared.tuning.MaybeTuning.the-variants.{NoTuning, Tuned}
@@ -19,18 +19,20 @@ tuning-of n = pick (ltb n (2 ^ 24)) (Tuned (record { semitone = n / 65536; fract
 abbrev pub change-entry : KeyTuning → ℕ
 change-entry c = c .key * 2 ^ 25 + tuning-entry (c .tuning)
 
+-- a key above 255 counts as 255
 abbrev pub change-of : ℕ → KeyTuning
-change-of n = record { key = n / 2 ^ 25; tuning = tuning-of (n % 2 ^ 25) }
+change-of n = record { key = min (n / 2 ^ 25) 255; tuning = tuning-of (n % 2 ^ 25) }
 
 -- target bank (above bit 42), target program, source bank, source program, source drum, target drum, volume (8 bits)
 abbrev pub map-entry : SoundFileMap → ℕ
 map-entry m =
     (((((m .«dst_bank» * 256 + m .«dst_prog») * 65536 + m .«src_bank») * 256 + m .«src_prog») * 2 + bit (m .«src_drum»)) * 2 + bit (m .«dst_drum»)) * 256 + m .volume
 
+-- a target bank above 65,535 counts as 65,535
 abbrev pub map-of : ℕ → SoundFileMap
 map-of n =
     record {
-      «dst_bank» = n / 2 ^ 42;
+      «dst_bank» = min (n / 2 ^ 42) 65535;
       «dst_prog» = n / 2 ^ 34 % 256;
       «src_bank» = n / 2 ^ 18 % 65536;
       «src_prog» = n / 2 ^ 10 % 256;
