@@ -6,3 +6,4 @@ pub mod Contents
 pub mod Walk
 pub mod Worked
 pub mod Formats
+pub mod Entries

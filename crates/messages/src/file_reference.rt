@@ -3,6 +3,7 @@ use super::head::Head;
 ghost use mathlib.Core.Path.{_≡_};
 ghost use Rattle.messages.specs.Maps.{default-sound-file-map, default-wav-map};
 ghost use Rattle.messages.specs.Entries.{map-entry, map-of};
+ghost use Rattle.messages.specs.Fields.{bit};
 ghost use Rattle.messages.specs.MessageOf.{head-select, head-reference};
 
 // The kind of sound file open: the scope's "bank or WAV".
@@ -15,6 +16,13 @@ pub enum FileReferenceType {
     DLS,
     SF2,
     WAV,
+}
+
+// A flag as a bit.
+fn bit(flag: bool) -> u64
+    ensures { λ r. ⌜ r ≡ bit flag ⌝ }
+{
+    if flag { 1 } else { 0 }
 }
 
 pub struct SoundFileMap {
@@ -48,6 +56,31 @@ impl SoundFileMap {
             src_drum: Self::DRUM,
             dst_drum: Self::DRUM,
             volume: Self::VOLUME,
+        }
+    }
+
+    // The map as an entry.
+    pub fn to_entry(self) -> u64
+        ensures { λ r. ⌜ r ≡ map-entry self ⌝ }
+    {
+        let target = self.dst_bank as u64 * 256 + self.dst_prog as u64;
+        let source = (target * 65536 + self.src_bank as u64) * 256 + self.src_prog as u64;
+        let drums = (source * 2 + bit(self.src_drum)) * 2 + bit(self.dst_drum);
+        drums * 256 + self.volume as u64
+    }
+
+    // The map that an entry says.
+    pub fn from_entry(entry: u64) -> Self
+        ensures { λ r. ⌜ r ≡ map-of entry ⌝ }
+    {
+        SoundFileMap {
+            dst_bank: util::groups::hold(entry / 4398046511104, 65535) as u16,
+            dst_prog: (entry / 17179869184 % 256) as u8,
+            src_bank: (entry / 262144 % 65536) as u16,
+            src_prog: (entry / 1024 % 256) as u8,
+            src_drum: entry / 512 % 2 == 1,
+            dst_drum: entry / 256 % 2 == 1,
+            volume: (entry % 256) as u8,
         }
     }
 }

@@ -1,4 +1,7 @@
 // Tunings. Names are lent beside these as text, tunings of keys as entries.
+ghost use mathlib.Core.Path.{_≡_};
+ghost use Rattle.messages.specs.Entries.{tuning-entry, tuning-of, change-entry, change-of};
+ghost use Rattle.util.specs.Channels.{how-many, lowest};
 
 pub struct Tuning {
     pub semitone: u8,
@@ -11,10 +14,55 @@ pub enum MaybeTuning {
     Tuned(Tuning),
 }
 
+impl MaybeTuning {
+    // The tuning as an entry.
+    pub fn to_entry(self) -> u64
+        ensures { λ r. ⌜ r ≡ tuning-entry self ⌝ }
+    {
+        match self {
+            MaybeTuning::NoTuning => 16777216,
+            MaybeTuning::Tuned(t) => t.semitone as u64 * 65536 + t.fraction as u64,
+        }
+    }
+
+    // The tuning that an entry says.
+    pub fn from_entry(entry: u64) -> Self
+        ensures { λ r. ⌜ r ≡ tuning-of entry ⌝ }
+    {
+        if entry < 16777216 {
+            MaybeTuning::Tuned(Tuning {
+                semitone: (entry / 65536) as u8,
+                fraction: (entry % 65536) as u16,
+            })
+        } else {
+            MaybeTuning::NoTuning
+        }
+    }
+}
+
 // A key and its tuning: an element of the crate's list of note changes.
 pub struct KeyTuning {
     pub key: u8,
     pub tuning: MaybeTuning,
+}
+
+impl KeyTuning {
+    // The note change as an entry.
+    pub fn to_entry(self) -> u64
+        ensures { λ r. ⌜ r ≡ change-entry self ⌝ }
+    {
+        let tuning = self.tuning;
+        self.key as u64 * 33554432 + tuning.to_entry()
+    }
+
+    // The note change that an entry says.
+    pub fn from_entry(entry: u64) -> Self
+        ensures { λ r. ⌜ r ≡ change-of entry ⌝ }
+    {
+        let key = util::groups::hold(entry / 33554432, 255) as u8;
+        let tuning = MaybeTuning::from_entry(entry % 33554432);
+        KeyTuning { key, tuning }
+    }
 }
 
 // A tuning bank, or none: the crate's `Option<u8>`.
@@ -58,6 +106,36 @@ pub struct Scale2Byte {
 // Sixteen channels: channel c is bit c - 1.
 pub struct ChannelBitMap {
     pub channels: u16,
+}
+
+impl ChannelBitMap {
+    // All sixteen channels.
+    pub fn all() -> Self
+        ensures { λ r. ⌜ r .channels ≡ 65535 ⌝ }
+    {
+        ChannelBitMap { channels: 65535 }
+    }
+
+    // No channel.
+    pub fn none() -> Self
+        ensures { λ r. ⌜ r .channels ≡ 0 ⌝ }
+    {
+        ChannelBitMap { channels: 0 }
+    }
+
+    // How many channels the map names.
+    pub fn how_many(self) -> u32
+        ensures { λ r. ⌜ r ≡ how-many (self .channels) ⌝ }
+    {
+        util::channels::how_many(self.channels)
+    }
+
+    // The lowest channel that the map names; 0 for none.
+    pub fn lowest(self) -> u32
+        ensures { λ r. ⌜ r ≡ lowest (self .channels) ⌝ }
+    {
+        util::channels::lowest(self.channels)
+    }
 }
 
 // entries: the tunings of keys 0 to 127; text: the name

@@ -1,40 +1,33 @@
+-- `messages::file_reference::FileReferenceMsg::head` meets its contract: each variant has the head of its case.
+-- Assumes nothing.
 use borrow.Author.Needs.{needs}
 use Rattle.messages.proofs.file_reference.FileReferenceMsg.head.Statement.{statement}
 use Rattle.messages.proofs.file_reference.FileReferenceMsg.head.Tie as tie
 
--- src/file_reference.rt:143:46
 enum-told : tie.Need-enum-told
 enum-told c = search needs
 
--- src/file_reference.rt:144:56
 enum-known-self : tie.Need-enum-known-self
 enum-known-self c = search needs
 
--- src/file_reference.rt:144:65
 head-requires : tie.Need-head-requires
 head-requires c κs = search needs
 
--- src/file_reference.rt:145:60
 enum-told-2 : tie.Need-enum-told-2
 enum-told-2 c = search needs
 
--- src/file_reference.rt:146:47
 enum-told-3 : tie.Need-enum-told-3
 enum-told-3 c = search needs
 
--- src/file_reference.rt:139:5
 returns : tie.Need-returns
 returns c = search needs
 
--- src/file_reference.rt:139:5
 returns-2 : tie.Need-returns-2
 returns-2 c = rw (c .before .before .self .given .1) (c .head .ensures)
 
--- src/file_reference.rt:139:5
 returns-3 : tie.Need-returns-3
 returns-3 c = search needs
 
--- src/file_reference.rt:139:5
 returns-4 : tie.Need-returns-4
 returns-4 c = search needs
 

@@ -1,186 +1,143 @@
+-- `UniversalNonRealTimeMsg::head` answers the head of the message: each arm is that of its module.
+-- Assumes nothing.
 use borrow.Author.Needs.{needs}
 use Rattle.messages.proofs.system_exclusive.UniversalNonRealTimeMsg.head.Statement.{
   statement,
 }
 use Rattle.messages.proofs.system_exclusive.UniversalNonRealTimeMsg.head.Tie as tie
 
--- src/system_exclusive.rt:94:49
 enum-known-self : tie.Need-enum-known-self
 enum-known-self c = search needs
 
--- src/system_exclusive.rt:94:55
 head-requires : tie.Need-head-requires
 head-requires c κs = search needs
 
--- src/system_exclusive.rt:95:57
 enum-known-self-2 : tie.Need-enum-known-self-2
 enum-known-self-2 c = search needs
 
--- src/system_exclusive.rt:95:63
 head-requires-2 : tie.Need-head-requires-2
 head-requires-2 c κs = search needs
 
--- src/system_exclusive.rt:96:57
 enum-told : tie.Need-enum-told
 enum-told c = search needs
 
--- src/system_exclusive.rt:97:58
 enum-told-2 : tie.Need-enum-told-2
 enum-told-2 c = search needs
 
--- src/system_exclusive.rt:98:47
 enum-known-self-3 : tie.Need-enum-known-self-3
 enum-known-self-3 c = search needs
 
--- src/system_exclusive.rt:98:53
 head-requires-3 : tie.Need-head-requires-3
 head-requires-3 c κs = search needs
 
--- src/system_exclusive.rt:100:17
 enum-known-self-4 : tie.Need-enum-known-self-4
 enum-known-self-4 c = search needs
 
--- src/system_exclusive.rt:102:18
 request-head-requires : tie.Need-request-head-requires
 request-head-requires c κs = search needs
 
--- src/system_exclusive.rt:103:57
 enum-known-self-5 : tie.Need-enum-known-self-5
 enum-known-self-5 c = search needs
 
--- src/system_exclusive.rt:105:17
 keys-head-requires : tie.Need-keys-head-requires
 keys-head-requires c κs = search needs
 
--- src/system_exclusive.rt:107:65
 enum-told-3 : tie.Need-enum-told-3
 enum-told-3 c = search needs
 
--- src/system_exclusive.rt:108:65
 enum-told-4 : tie.Need-enum-told-4
 enum-told-4 c = search needs
 
--- src/system_exclusive.rt:109:61
 enum-told-5 : tie.Need-enum-told-5
 enum-told-5 c = search needs
 
--- src/system_exclusive.rt:110:61
 enum-told-6 : tie.Need-enum-told-6
 enum-told-6 c = search needs
 
--- src/system_exclusive.rt:111:61
 enum-told-7 : tie.Need-enum-told-7
 enum-told-7 c = search needs
 
--- src/system_exclusive.rt:112:50
 enum-known-self-6 : tie.Need-enum-known-self-6
 enum-known-self-6 c = search needs
 
--- src/system_exclusive.rt:112:56
 head-requires-4 : tie.Need-head-requires-4
 head-requires-4 c κs = search needs
 
--- src/system_exclusive.rt:113:52
 enum-known-self-7 : tie.Need-enum-known-self-7
 enum-known-self-7 c = search needs
 
--- src/system_exclusive.rt:113:58
 head-requires-5 : tie.Need-head-requires-5
 head-requires-5 c κs = search needs
 
--- src/system_exclusive.rt:114:45
 enum-told-8 : tie.Need-enum-told-8
 enum-told-8 c = search needs
 
--- src/system_exclusive.rt:115:46
 enum-told-9 : tie.Need-enum-told-9
 enum-told-9 c = search needs
 
--- src/system_exclusive.rt:116:48
 enum-told-10 : tie.Need-enum-told-10
 enum-told-10 c = search needs
 
--- src/system_exclusive.rt:117:48
 enum-told-11 : tie.Need-enum-told-11
 enum-told-11 c = search needs
 
--- src/system_exclusive.rt:118:48
 enum-told-12 : tie.Need-enum-told-12
 enum-told-12 c = search needs
 
--- src/system_exclusive.rt:90:5
 returns : tie.Need-returns
 returns c = rw (c .before .before .self .given .1) (c .head .ensures)
 
--- src/system_exclusive.rt:90:5
 returns-2 : tie.Need-returns-2
 returns-2 c = rw (c .before .before .self2 .given .1) (c .head2 .ensures)
 
--- src/system_exclusive.rt:90:5
 returns-3 : tie.Need-returns-3
 returns-3 c = rw (c .enum-told .given .1)
 
--- src/system_exclusive.rt:90:5
 returns-4 : tie.Need-returns-4
 returns-4 c = rw (c .enum-told2 .given .1)
 
--- src/system_exclusive.rt:90:5
 returns-5 : tie.Need-returns-5
 returns-5 c = rw (c .before .before .self3 .given .1) (c .head3 .ensures)
 
--- src/system_exclusive.rt:90:5
 returns-6 : tie.Need-returns-6
 returns-6 c = rw (c .before .before .self4 .given .1) (c .request-head .ensures)
 
--- src/system_exclusive.rt:90:5
 returns-7 : tie.Need-returns-7
 returns-7 c = rw (c .before .before .self5 .given .1) (c .keys-head .ensures)
 
--- src/system_exclusive.rt:90:5
 returns-8 : tie.Need-returns-8
 returns-8 c = rw (c .enum-told3 .given .1)
 
--- src/system_exclusive.rt:90:5
 returns-9 : tie.Need-returns-9
 returns-9 c = rw (c .enum-told4 .given .1)
 
--- src/system_exclusive.rt:90:5
 returns-10 : tie.Need-returns-10
 returns-10 c = rw (c .enum-told5 .given .1)
 
--- src/system_exclusive.rt:90:5
 returns-11 : tie.Need-returns-11
 returns-11 c = rw (c .enum-told6 .given .1)
 
--- src/system_exclusive.rt:90:5
 returns-12 : tie.Need-returns-12
 returns-12 c = rw (c .enum-told7 .given .1)
 
--- src/system_exclusive.rt:90:5
 returns-13 : tie.Need-returns-13
 returns-13 c = rw (c .before .before .self6 .given .1) (c .head4 .ensures)
 
--- src/system_exclusive.rt:90:5
 returns-14 : tie.Need-returns-14
 returns-14 c = rw (c .before .before .self7 .given .1) (c .head5 .ensures)
 
--- src/system_exclusive.rt:90:5
 returns-15 : tie.Need-returns-15
 returns-15 c = rw (c .enum-told8 .given .1)
 
--- src/system_exclusive.rt:90:5
 returns-16 : tie.Need-returns-16
 returns-16 c = rw (c .enum-told9 .given .1)
 
--- src/system_exclusive.rt:90:5
 returns-17 : tie.Need-returns-17
 returns-17 c = rw (c .enum-told10 .given .1)
 
--- src/system_exclusive.rt:90:5
 returns-18 : tie.Need-returns-18
 returns-18 c = rw (c .enum-told11 .given .1)
 
--- src/system_exclusive.rt:90:5
 returns-19 : tie.Need-returns-19
 returns-19 c = rw (c .enum-told12 .given .1)
 
