@@ -1,1 +1,0 @@
-// What follows the front of each message.

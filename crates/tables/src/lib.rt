@@ -1,1 +1,0 @@
-// The fields of each message, as tables of widths and values.
