@@ -14,7 +14,7 @@ use Rattle.messages.specs.declared.«file_reference».FileReferenceType.
 use Rattle.messages.specs.declared.«file_reference».SelectMap.the-variants as select
 use Rattle.messages.specs.declared.«file_reference».FileReferenceMsg.the-variants as reference
 use Rattle.messages.specs.declared.«file_dump».FileDumpMsg.the-variants as file
-use Rattle.messages.specs.declared.«file_dump».FileType.the-variants.{MIDI, Custom}
+use Rattle.messages.specs.declared.«file_dump».FileType.the-variants.{MIDI, MAC, Custom}
 use Rattle.messages.specs.declared.«sample_dump».SampleDumpMsg.the-variants as sample
 use Rattle.messages.specs.declared.«sample_dump».ExtendedSampleDumpMsg.the-variants as extended
 use Rattle.messages.specs.declared.«sample_dump».LoopType.the-variants.{Off}
@@ -103,6 +103,9 @@ starred = (refl, (refl, (refl, (refl, (refl, (refl, (refl, (refl, (refl, (refl, 
 
 -- ---- a frame for each kind of field, and the refusals
 
+abbrev pub scale-dump : List ℕ → Message
+scale-dump name = messageOf (Device 0) (msg.ScaleTuningDump1Byte (record { «tuning_bank_num» = 0; «tuning_program_num» = 0; tuning = record { c = pos 0; «c_sharp» = pos 0; d = pos 0; «d_sharp» = pos 0; e = pos 0; f = pos 0; «f_sharp» = pos 0; g = pos 0; «g_sharp» = pos 0; a = pos 0; «a_sharp» = pos 0; b = pos 0 } })) name []
+
 abbrev pub file-header : ℕ → List ℕ → Message
 file-header length name = messageOf (Device 0) (msg.FileDump (file.Header AllCall MIDI length)) name []
 
@@ -134,7 +137,7 @@ pub field-kinds :
     ∷ slice 10 (messageOf (Device 0) (msg.ExtendedSampleDump (extended.Header 0 8 44100 134217728 0 0 0 OneShot 0)) [] []) 8 8 (0x44 ∷ 0x58 ∷ 0x02 ∷ 0x00 ∷ 0x00 ∷ 0x00 ∷ 0x00 ∷ 0x40 ∷ [])
     -- 11: the sums of an empty sample packet and of a scale dump
     ∷ byte 11 (messageOf (Device 0) (msg.SampleDump (sample.Packet 0)) [] []) 125 0x7C
-    ∷ byte 11 (messageOf (Device 0) (msg.ScaleTuningDump1Byte (record { «tuning_bank_num» = 0; «tuning_program_num» = 0; tuning = record { c = pos 0; «c_sharp» = pos 0; d = pos 0; «d_sharp» = pos 0; e = pos 0; f = pos 0; «f_sharp» = pos 0; g = pos 0; «g_sharp» = pos 0; a = pos 0; «a_sharp» = pos 0; b = pos 0 } })) (replicate 16 0x20) []) 35 0x73
+    ∷ byte 11 (scale-dump (replicate 16 0x20)) 35 0x73
     -- spare channel bits
     ∷ refuses-read 0 kind.Bank (0xF0 ∷ 0x7E ∷ 0x00 ∷ 0x08 ∷ 0x08 ∷ 0x04 ∷ 0x00 ∷ 0x00 ∷ 0x40 ∷ 0x40 ∷ 0x40 ∷ 0x40 ∷ 0x40 ∷ 0x40 ∷ 0x40 ∷ 0x40 ∷ 0x40 ∷ 0x40 ∷ 0x40 ∷ 0x40 ∷ 0xF7 ∷ []) Field
     -- a spare top bit under a good sum
@@ -191,6 +194,12 @@ pub settled-forms :
     ∷ settles (messageOf AllCall (msg.SampleDump (sample.Header 0 29 0 0 0 0 Off)) [] []) (messageOf AllCall (msg.SampleDump (sample.Header 0 28 0 0 0 0 Off)) [] [])
     -- device 7F is read as all call
     ∷ reads 0 kind.Bank (0xF0 ∷ 0x7E ∷ 0x7F ∷ 0x7B ∷ 0x00 ∷ 0xF7 ∷ []) (messageOf AllCall msg.EOF [] [])
+    -- a note change's bank 00, and a named type, are read as such
+    ∷ reads 0 kind.Bank (0xF0 ∷ 0x7E ∷ 0x00 ∷ 0x08 ∷ 0x07 ∷ 0x00 ∷ 0x00 ∷ 0x00 ∷ 0xF7 ∷ []) (messageOf (Device 0) (msg.TuningNoteChange (record { «tuning_bank_num» = Bank 0; «tuning_program_num» = 0 })) [] [])
+    ∷ reads 0 kind.Bank (0xF0 ∷ 0x7E ∷ 0x00 ∷ 0x07 ∷ 0x03 ∷ 0x00 ∷ 0x4D ∷ 0x41 ∷ 0x43 ∷ 0x20 ∷ 0xF7 ∷ []) (messageOf (Device 0) (msg.FileDump (file.Request (Device 0) MAC)) [] [])
+    -- a name of another length than 16: HIGH looks at the whole of it; it is filled with spaces
+    ∷ refuses 0 (scale-dump (replicate 16 0x20 ++ (0x80 ∷ []))) High
+    ∷ slice 0 (scale-dump (0x41 ∷ [])) 7 3 (0x41 ∷ 0x20 ∷ 0x20 ∷ [])
     ∷ [])
-unfolding settle readOf
-settled-forms = (refl, (refl, (refl, (refl, (refl, (refl, (refl, (refl, (refl, (refl, (refl, (refl, (refl, tt)))))))))))))
+unfolding writeOf refusal settle readOf
+settled-forms = (refl, (refl, (refl, (refl, (refl, (refl, (refl, (refl, (refl, (refl, (refl, (refl, (refl, (refl, (refl, (refl, (refl, tt)))))))))))))))))
