@@ -14,6 +14,7 @@ use borrow.Author.Tests.{eqb-true, eq-eqb, le-leb, leb-true}
 use Rattle.util.specs.Groups.{Seven, seven}
 use Rattle.util.specs.Checksum.{checksum, xor-from}
 use Rattle.util.proofs.Laws.Groups.{seven-append, seven-true, true-seven}
+use Rattle.util.specs.Options.{only-if}
 use Rattle.util.proofs.Laws.Options.{none-some, only-if-some}
 use Rattle.messages.specs.Types.{Refusal, Head, Kind, DeviceID}
 use Rattle.messages.specs.Refusals.{least-none, none-both}
@@ -112,7 +113,7 @@ unsnoc-only (b ∷ l) x i e = after-first-only b l (unsnoc l) x i (unsnoc-bad l)
 pub inside-back : (mid : List ℕ) → Seven mid → 4 ≤ length mid → inside (0xF0 ∷ (mid ++ (0xF7 ∷ []))) ≡ some mid
 inside-back mid s h =
     let l : 6 ≤ length (0xF0 ∷ (mid ++ (0xF7 ∷ []))) = omega (arith, length-append mid (0xF7 ∷ [])) in
-    rw (le-leb _ _ l, unsnoc-back mid 0xF7, true-seven mid s)
+    rw (le-leb _ _ l, unsnoc-back mid 0xF7) (ap (λ (t : Bool). only-if t (some mid)) (true-seven mid s))
 
 opt-some : {A B C : Type 0} (o : Option A) (f : A → Option B) {b : B} → opt o f ≡ some b → ((a : A) → o ≡ some a → f a ≡ some b → C) → C
 opt-some none f e k = absurd (none-some e)
