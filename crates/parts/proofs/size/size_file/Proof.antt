@@ -1,0 +1,47 @@
+-- `parts::size::size_file` meets its contract, message by message.
+-- Assumes nothing.
+use native.Mathlib.Omega.{arith}
+use borrow.Author.Needs.{needs}
+use Rattle.parts.proofs.size.size_file.Statement.{statement}
+use Rattle.parts.proofs.size.size_file.Tie as tie
+
+enum-told : tie.Need-enum-told
+enum-told c = search needs
+
+enum-told-2 : tie.Need-enum-told-2
+enum-told-2 c = search needs
+
+add-result : tie.Need-add-result
+add-result c = omega (arith, rw (c .enum-told2 .given .1) at (c .before .before .pre))
+
+add-result-2 : tie.Need-add-result-2
+add-result-2 c = omega (arith, rw (c .enum-told2 .given .1) at (c .before .before .pre))
+
+add-result-3 : tie.Need-add-result-3
+add-result-3 c = omega (arith, rw (c .enum-told2 .given .1) at (c .before .before .pre))
+
+enum-told-3 : tie.Need-enum-told-3
+enum-told-3 c = search needs
+
+returns : tie.Need-returns
+returns c = rw (c .enum-told .given .1)
+
+returns-2 : tie.Need-returns-2
+returns-2 c = rw (c .enum-told2 .given .1)
+
+returns-3 : tie.Need-returns-3
+returns-3 c = rw (c .enum-told3 .given .1)
+
+pub size-file-spec : {M : Type 1} → statement M
+size-file-spec =
+    tie.close
+    (tie.spec
+    enum-told
+    enum-told-2
+    add-result
+    add-result-2
+    add-result-3
+    enum-told-3
+    returns
+    returns-2
+    returns-3)

@@ -1,0 +1,8 @@
+// What follows the front of each message.
+pub mod entries;
+pub mod maps;
+pub mod packing;
+pub mod part;
+pub mod scales;
+pub mod size;
+pub mod text;

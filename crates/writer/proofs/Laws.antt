@@ -1,0 +1,9 @@
+pub mod Contents
+pub mod Fronts
+pub mod Frames
+pub mod Bodies
+pub mod References
+pub mod Sums
+pub mod Whole
+pub mod Lengths
+pub mod Answers

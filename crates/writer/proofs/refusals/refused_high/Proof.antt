@@ -1,0 +1,18 @@
+-- `writer::refusals::refused_high` meets its contract: the test of the bytes is `seven`.
+-- Assumes nothing.
+use mathlib.Core.Path.{sym, _∙_}
+use borrow.Author.Needs.{needs}
+use Rattle.writer.proofs.refusals.refused_high.Statement.{statement}
+use Rattle.writer.proofs.refusals.refused_high.Tie as tie
+
+is-seven-requires : tie.Need-is-seven-requires
+is-seven-requires c κs = search needs
+
+returns : tie.Need-returns
+returns c = rw (sym (c .before .is-seven .ensures) ∙ c .if1 .taken)
+
+returns-2 : tie.Need-returns-2
+returns-2 c = rw (sym (c .before .is-seven .ensures) ∙ c .if1 .left)
+
+pub refused-high-spec : {M : Type 1} → statement M
+refused-high-spec = tie.close (tie.spec is-seven-requires returns returns-2)

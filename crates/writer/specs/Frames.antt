@@ -1,0 +1,39 @@
+-- The frame as the writer puts it together, and the contents of file headers and requests.
+use mathlib.Core.Bool.{Bool, true, false}
+use mathlib.Core.Option.{Option}
+use mathlib.Core.List.{List, [], _∷_, _++_}
+use Prim.Native.Nat.{ℕ}
+use lib.ListN.{length}
+use Rattle.util.specs.Checksum.{checksum}
+use Rattle.messages.specs.declared.refusal.Refusal.{Refusal}
+use Rattle.messages.specs.declared.«system_exclusive».DeviceID.{DeviceID}
+use Rattle.messages.specs.declared.«system_exclusive».UniversalNonRealTimeMsg.{UniversalNonRealTimeMsg}
+use Rattle.messages.specs.declared.«file_dump».FileType.{FileType}
+use Rattle.messages.specs.Refusals.{least}
+use Rattle.messages.specs.Fields.{device-byte, high, type-bytes, most-name}
+use Rattle.messages.specs.Layouts.{summed}
+use Rattle.messages.specs.Contents.{too-large, longer}
+use Rattle.messages.specs.MessageOf.{headOf}
+use Rattle.tables.specs.Fronts.{frontOf}
+use Rattle.parts.specs.Parts.{partOf}
+
+-- the checksum of bytes, where there is one
+abbrev pub sum-of : Bool → List ℕ → List ℕ
+sum-of true b = checksum b ∷ []
+sum-of false b = []
+
+-- F0, the bytes, their checksum where there is one, F7
+unfoldable pub wire : Bool → List ℕ → List ℕ
+wire b l = (0xF0 ∷ l) ++ sum-of b l ++ (0xF7 ∷ [])
+
+-- the frame by the message's front and its part
+unfoldable pub frame-of : DeviceID → UniversalNonRealTimeMsg → List ℕ → List ℕ → List ℕ
+frame-of d m text entries = wire (summed (headOf m)) (frontOf (device-byte d) m (length text) (length entries) ++ partOf m text entries)
+
+-- the refusal of a file header, as `contents` has it
+abbrev pub header-contents : FileType → ℕ → List ℕ → Option Refusal
+header-contents t n name = least (high (type-bytes t)) (least (too-large n) (least (longer most-name name) (high name)))
+
+-- the refusal of a file request, as `contents` has it
+abbrev pub request-contents : FileType → List ℕ → Option Refusal
+request-contents t name = least (high (type-bytes t)) (least (longer most-name name) (high name))
