@@ -1,0 +1,5 @@
+pub mod Digits
+pub mod Rate
+pub mod Cents
+pub mod Header
+pub mod Promises

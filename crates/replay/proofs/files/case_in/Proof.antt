@@ -1,0 +1,34 @@
+-- `replay::files::case_in` meets its contract: the part has as many bytes as are held.
+-- Assumes nothing.
+use mathlib.Core.Path.{_≡_, subst}
+use Prim.Native.Nat.{_-_, _≤_}
+use native.Mathlib.Omega.{arith}
+use denote.Ref.{now}
+use lib.ListN.{length, take, drop, length-take, length-drop}
+use Rattle.vectors.specs.Extents.{CaseIn}
+use borrow.Author.Needs.{needs}
+use Rattle.replay.proofs.files.case_in.Statement.{statement}
+use Rattle.replay.proofs.files.case_in.Tie as tie
+
+sub-case-at : tie.Need-sub-case-at
+sub-case-at c = search needs
+
+part-case-at-start : tie.Need-part-case-at-start
+part-case-at-start c = search needs
+
+part-case-at-end : tie.Need-part-case-at-end
+part-case-at-end c = search needs
+
+case-at-requires : tie.Need-case-at-requires
+case-at-requires c κs = search needs
+
+returns : tie.Need-returns
+returns c =
+    let a = c .before .before .before .args in
+    let h : a .len ≤ length (now (a .room)) = c .before .before .before .pre in
+    let e : length (take (a .len - 0) (drop 0 (now (a .room)))) ≡ a .len = simp (length-take, length-drop) (omega arith) in
+    subst (CaseIn (c .case-at .result) (a .at)) e (c .case-at .ensures)
+
+pub case-in-spec : {M : Type 1} → statement M
+case-in-spec =
+    tie.close (tie.spec sub-case-at part-case-at-start part-case-at-end case-at-requires returns)

@@ -1,0 +1,123 @@
+// One case of a file: its parts are read, and it is replayed.
+use super::tries;
+use messages::system_exclusive::DeviceID;
+use messages::system_exclusive::UniversalNonRealTimeMsg;
+use vectors::cases::Extents;
+use vectors::little;
+use vectors::message;
+use vectors::message::Made;
+use vectors::message::MadeDevice;
+ghost use Prim.Native.Nat.{_≤_};
+ghost use lib.ListN.{length};
+ghost use Rattle.vectors.specs.Extents.{Inside};
+
+// What a replay of a case finds.
+pub enum Verdict {
+    Passed,
+    Failed,
+    Malformed,
+}
+
+// A test as a verdict.
+fn judged(ok: bool) -> Verdict {
+    if ok { Verdict::Passed } else { Verdict::Failed }
+}
+
+// Whether the out parts of a write are those of its refusal: none, or the frame whose length is the answer value.
+fn is_write(e: Extents) -> bool {
+    let out_numbers = e.out_numbers;
+    let out_entries = e.out_entries;
+    let bytes = e.bytes;
+    if out_numbers.count != 0 {
+        return false;
+    }
+    if out_entries.count != 0 {
+        return false;
+    }
+    if e.value != bytes.count as u64 {
+        return false;
+    }
+    if e.refusal == 0 {
+        return true;
+    }
+    bytes.count == 0
+}
+
+// The text of a case.
+fn text_of(s: &[u8], e: Extents) -> &[u8]
+    requires { ⌜ Inside e (length (now s)) ⌝ }
+{
+    let part = e.text;
+    let start = part.start;
+    let next = part.next;
+    &s[start..next]
+}
+
+// The out bytes of a case.
+fn bytes_of(s: &[u8], e: Extents) -> &[u8]
+    requires { ⌜ Inside e (length (now s)) ⌝ }
+{
+    let part = e.bytes;
+    let start = part.start;
+    let next = part.next;
+    &s[start..next]
+}
+
+// The numbers of a case, and zeros.
+fn numbers_of(s: &[u8], e: Extents) -> [u64; 16]
+    requires { ⌜ Inside e (length (now s)) × (e .numbers .count ≤ 16) ⌝ }
+{
+    let part = e.numbers;
+    let start = part.start;
+    let count = part.count;
+    let mut v = [0u64; 16];
+    little::read_numbers(s, start, &mut v[0..count]);
+    v
+}
+
+// Replays a write of a message with its entries.
+fn replay_message(
+    device: DeviceID,
+    m: UniversalNonRealTimeMsg,
+    s: &[u8],
+    e: Extents,
+    entries: &[u64],
+    out: &mut [u8],
+) -> Verdict
+    requires { ⌜ Inside e (length (now s)) ⌝ }
+{
+    let text = text_of(s, e);
+    if e.refusal != 0 {
+        return judged(tries::is_refused(device, m, text, entries, e.refusal, out));
+    }
+    let frame = bytes_of(s, e);
+    judged(tries::is_written(device, m, text, entries, frame, out))
+}
+
+// Replays a write.
+pub fn replay_write(s: &[u8], e: Extents, entries: &mut [u64], out: &mut [u8]) -> Verdict
+    requires { ⌜ Inside e (length (now s)) ⌝ }
+{
+    let numbers = e.numbers;
+    let part = e.entries;
+    let start = part.start;
+    let count = part.count;
+    if !is_write(e) {
+        return Verdict::Malformed;
+    }
+    if 16 < numbers.count {
+        return Verdict::Malformed;
+    }
+    if entries.len() < count {
+        return Verdict::Malformed;
+    }
+    let v = numbers_of(s, e);
+    let MadeDevice::Device(device) = message::device(v[1]) else {
+        return Verdict::Malformed;
+    };
+    let Made::Message(m) = message::message(&v, numbers.count) else {
+        return Verdict::Malformed;
+    };
+    little::read_numbers(s, start, &mut entries[0..count]);
+    replay_message(device, m, s, e, &entries[0..count], out)
+}
