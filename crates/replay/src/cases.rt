@@ -1,8 +1,11 @@
 // One case of a file: its parts are read, and it is replayed.
+use super::floats;
 use super::tries;
 use messages::system_exclusive::DeviceID;
 use messages::system_exclusive::UniversalNonRealTimeMsg;
 use vectors::cases::Extents;
+use vectors::fit;
+use vectors::fit::FitU32;
 use vectors::little;
 use vectors::message;
 use vectors::message::Made;
@@ -95,7 +98,7 @@ fn replay_message(
 }
 
 // Replays a write.
-pub fn replay_write(s: &[u8], e: Extents, entries: &mut [u64], out: &mut [u8]) -> Verdict
+fn replay_write(s: &[u8], e: Extents, entries: &mut [u64], out: &mut [u8]) -> Verdict
     requires { ⌜ Inside e (length (now s)) ⌝ }
 {
     let numbers = e.numbers;
@@ -120,4 +123,110 @@ pub fn replay_write(s: &[u8], e: Extents, entries: &mut [u64], out: &mut [u8]) -
     };
     little::read_numbers(s, start, &mut entries[0..count]);
     replay_message(device, m, s, e, &entries[0..count], out)
+}
+
+// Whether a case of rates or cents has so many numbers, and nothing but numbers.
+fn is_numbers(e: Extents, count: usize, out_count: usize) -> bool {
+    let numbers = e.numbers;
+    let out_numbers = e.out_numbers;
+    let text = e.text;
+    let bytes = e.bytes;
+    let entries = e.entries;
+    let out_entries = e.out_entries;
+    if numbers.count != count {
+        return false;
+    }
+    if out_numbers.count != out_count {
+        return false;
+    }
+    text.count == 0 && bytes.count == 0 && entries.count == 0 && out_entries.count == 0
+}
+
+// The out numbers of a case, and zeros.
+fn out_numbers_of(s: &[u8], e: Extents) -> [u64; 16]
+    requires { ⌜ Inside e (length (now s)) × (e .«out_numbers» .count ≤ 16) ⌝ }
+{
+    let part = e.out_numbers;
+    let start = part.start;
+    let count = part.count;
+    let mut v = [0u64; 16];
+    little::read_numbers(s, start, &mut v[0..count]);
+    v
+}
+
+// Replays cents.
+fn replay_cents(bits: u64, e: Extents) -> Verdict {
+    let FitU32::Fits(b) = fit::to_u32(bits) else {
+        return Verdict::Malformed;
+    };
+    judged(floats::is_cents(b, e.value))
+}
+
+// Replays a split.
+fn replay_split(bits: u64, whole: u64, fraction: u64, e: Extents) -> Verdict {
+    if e.refusal != 0 {
+        return judged(floats::is_refused(bits, e.refusal));
+    }
+    judged(floats::is_pair(bits, whole, fraction))
+}
+
+// Replays a join.
+fn replay_join(whole: u64, fraction: u64, e: Extents) -> Verdict {
+    let FitU32::Fits(w) = fit::to_u32(whole) else {
+        return Verdict::Malformed;
+    };
+    let FitU32::Fits(f) = fit::to_u32(fraction) else {
+        return Verdict::Malformed;
+    };
+    judged(floats::is_joined(w, f, e.value))
+}
+
+// Replays rates and cents.
+fn replay_floats(s: &[u8], e: Extents) -> Verdict
+    requires { ⌜ Inside e (length (now s)) ⌝ }
+{
+    let numbers = e.numbers;
+    let out_numbers = e.out_numbers;
+    if 16 < numbers.count {
+        return Verdict::Malformed;
+    }
+    if 16 < out_numbers.count {
+        return Verdict::Malformed;
+    }
+    let v = numbers_of(s, e);
+    let w = out_numbers_of(s, e);
+    if e.op == 5 {
+        if is_numbers(e, 1, 0) {
+            return replay_cents(v[0], e);
+        }
+    }
+    if e.op == 6 {
+        if is_numbers(e, 1, if e.refusal == 0 { 2 } else { 0 }) {
+            return replay_split(v[0], w[0], w[1], e);
+        }
+    }
+    if e.op == 7 {
+        if is_numbers(e, 2, 0) {
+            return replay_join(v[0], v[1], e);
+        }
+    }
+    Verdict::Malformed
+}
+
+// Whether cases of an op are replayed.
+pub fn is_replayed(op: u8) -> bool {
+    if op == 1 {
+        return true;
+    }
+    5 <= op && op <= 7
+}
+
+// Replays a case of an op that is replayed.
+pub fn replay_case(s: &[u8], e: Extents, entries: &mut [u64], out: &mut [u8]) -> Verdict
+    requires { ⌜ Inside e (length (now s)) ⌝ }
+{
+    if e.op == 1 {
+        return replay_write(s, e, entries, out);
+    }
+    replay_floats(s, e)
 }

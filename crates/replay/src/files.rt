@@ -233,8 +233,8 @@ fn count_later(tally: Tally, name: &[u8], op: u8, seen: &mut [bool; 8]) -> Tally
     tally.postpone()
 }
 
-// Counts a write by its verdict, and goes on behind it.
-fn count_write(p: Progress, e: Extents, v: Verdict, name: &[u8]) -> Progress
+// Counts a case by its verdict, and goes on behind it.
+fn count_case(p: Progress, e: Extents, v: Verdict, name: &[u8]) -> Progress
     requires { ⌜ (p .at ≤ p .len) × (e .end ≤ p .len) ⌝ }
     ensures { λ r. ⌜ Within r (p .len) ⌝ }
 {
@@ -275,11 +275,11 @@ fn case_in(room: &[u8], len: usize, at: usize) -> Case
     vectors::cases::case_at(&room[0..len], at)
 }
 
-// Replays a write among the bytes that are held.
-fn write_in(room: &[u8], len: usize, e: Extents, entries: &mut [u64], out: &mut [u8]) -> Verdict
+// Replays a case among the bytes that are held.
+fn case_among(room: &[u8], len: usize, e: Extents, entries: &mut [u64], out: &mut [u8]) -> Verdict
     requires { ⌜ (len ≤ length (now room)) × Inside e len ⌝ }
 {
-    cases::replay_write(&room[0..len], e, entries, out)
+    cases::replay_case(&room[0..len], e, entries, out)
 }
 
 // Replays the next case, or reads more.
@@ -298,9 +298,9 @@ fn turn(
     let Case::Whole(e) = case_in(room, p.len, p.at) else {
         return refill(p, fd, name, room);
     };
-    if e.op == 1 {
-        let v = write_in(room, p.len, e, entries, out);
-        return count_write(p, e, v, name);
+    if cases::is_replayed(e.op) {
+        let v = case_among(room, p.len, e, entries, out);
+        return count_case(p, e, v, name);
     }
     count_other(p, e, name, seen)
 }

@@ -1,6 +1,7 @@
 // Replays files of test vectors, named by its arguments, and prints how many cases passed and failed.
 mod cases;
 mod files;
+mod floats;
 mod print;
 mod tries;
 

@@ -23,13 +23,16 @@ same-length c = search needs
 returns : tie.Need-returns
 returns c = search needs
 
-write-in-requires : tie.Need-write-in-requires
-write-in-requires c κs =
+is-replayed-requires : tie.Need-is-replayed-requires
+is-replayed-requires c κs = search needs
+
+case-among-requires : tie.Need-case-among-requires
+case-among-requires c κs =
     let e = c .before .before .before .before .before .before in
     (e .before .before .before .before .before .before .before .before .pre .room, whole-inside (e .e .given .1) (e .before .before .case-in .ensures) .1)
 
-count-write-requires : tie.Need-count-write-requires
-count-write-requires c κs =
+count-case-requires : tie.Need-count-case-requires
+count-case-requires c κs =
     let e = c .before .before .before .before .before .before .before .before .before .before .before in
     (e .before .before .before .before .before .before .before .before .pre .place, whole-inside (e .e .given .1) (e .before .before .case-in .ensures) .1 .end-in)
 
@@ -45,7 +48,7 @@ same-length-4 c = search needs
 returns-2 : tie.Need-returns-2
 returns-2 c =
     let e = c .before .before .before .before .before .before .before .before .before .before .before .before in
-    within-more (c .count-write .ensures) (e .before .before .before .before .before .before .before .before .pre .room)
+    within-more (c .count-case .ensures) (e .before .before .before .before .before .before .before .before .pre .room)
 
 count-other-requires : tie.Need-count-other-requires
 count-other-requires c κs =
@@ -70,8 +73,9 @@ turn-spec =
     refill-requires
     same-length
     returns
-    write-in-requires
-    count-write-requires
+    is-replayed-requires
+    case-among-requires
+    count-case-requires
     same-length-2
     same-length-3
     same-length-4
