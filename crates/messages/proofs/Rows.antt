@@ -13,10 +13,10 @@ use Rattle.util.specs.Groups.{Seven}
 use Rattle.util.specs.Checksum.{checksum}
 use Rattle.util.proofs.Laws.Options.{none-some}
 use Rattle.messages.specs.Types.{Refusal, Head, Kind, DeviceID}
-use Rattle.messages.specs.declared.refusal.Refusal.the-variants as R
+use Rattle.util.specs.declared.refusal.Refusal.the-variants as R
 use Rattle.messages.specs.declared.head.Head.the-variants.{SampleDumpHeader, SampleDumpPacket, SampleDumpRequest, LoopPointTransmission, LoopPointsRequest, SampleName, SampleNameRequest, ExtendedHeader, ExtendedLoopPointTransmission, ExtendedLoopPointsRequest, IdentityRequest, IdentityReply, FileDumpHeader, FileDumpPacket, FileDumpRequest, TuningBulkDumpRequest, KeyBasedTuningDump, BankTuningBulkDumpRequest, BankKeyBasedTuningDump, ScaleTuningDump1Byte, ScaleTuningDump2Byte, TuningNoteChange, ScaleTuning1Byte, ScaleTuning2Byte, GeneralMidi1, GeneralMidiOff, GeneralMidi2, FileReferenceOpen, SelectSoundFile, SelectWAV, FileReferenceOpenSelect, FileReferenceClose, EOF, Wait, Cancel, NAK, ACK}
 use Rattle.messages.specs.declared.«file_reference».Kind.the-variants.{Bank, WAV}
-use Rattle.messages.specs.Refusals.{number}
+use Rattle.util.specs.Refusals.{number}
 use Rattle.messages.specs.format.{Got, bad, got, bad-got}
 use Rattle.messages.specs.Fields as field
 use Rattle.messages.specs.Layouts.{Fields, form, code, summed, reads}

@@ -13,7 +13,7 @@ use Rattle.util.specs.Groups.{Seven}
 use Rattle.util.specs.Checksum.{checksum}
 use Rattle.util.proofs.Laws.Groups.{seven-append, seven-right}
 use Rattle.messages.specs.Types.{Refusal, Head, Kind, DeviceID}
-use Rattle.messages.specs.declared.refusal.Refusal.the-variants as R
+use Rattle.util.specs.declared.refusal.Refusal.the-variants as R
 use Rattle.messages.specs.format.{Got, bad, got}
 use Rattle.messages.specs.Layouts.{Fields, form, summed}
 use Rattle.messages.specs.Messages.{Message, make, Answer, refused, given, opening, body, with-sum, framed, unsnoc, inside, Opened, read-opening, plain-answer, sum-answer, read-summed, read-fields, read-opened, read-inside, readOf}

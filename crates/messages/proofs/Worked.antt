@@ -7,8 +7,8 @@ use Prim.Native.Nat.{ℕ}
 use lib.IntN.{pos, negsuc}
 use lib.ListN.{getD, take, drop, replicate}
 use Rattle.messages.specs.Types.{Refusal, Kind, WAVMap, ManufacturerID}
-use Rattle.messages.specs.declared.refusal.Refusal.the-variants.{High, Long, Value, Shape, Field, Sum}
-use Rattle.messages.specs.declared.refusal.Refusal.the-variants as R
+use Rattle.util.specs.declared.refusal.Refusal.the-variants.{High, Long, Value, Shape, Field, Sum}
+use Rattle.util.specs.declared.refusal.Refusal.the-variants as R
 use Rattle.messages.specs.declared.«file_reference».Kind.the-variants as kind
 use Rattle.messages.specs.declared.«file_reference».FileReferenceType.the-variants.{DLS}
 use Rattle.messages.specs.declared.«file_reference».SelectMap.the-variants as select

@@ -7,7 +7,7 @@ use lib.ListN.{length}
 use Rattle.util.specs.Fields.{fits-u28}
 use Rattle.util.specs.Options.{unless}
 use Rattle.messages.specs.Types.{Refusal, Head, ManufacturerID, FileReferenceType}
-use Rattle.messages.specs.declared.refusal.Refusal.the-variants.{High, Long, Value, Kind}
+use Rattle.util.specs.declared.refusal.Refusal.the-variants.{High, Long, Value, Kind}
 use Rattle.messages.specs.declared.head.Head.the-variants.{SampleDumpHeader, SampleDumpPacket, SampleDumpRequest, LoopPointTransmission, LoopPointsRequest, SampleName, SampleNameRequest, ExtendedHeader, ExtendedLoopPointTransmission, ExtendedLoopPointsRequest, IdentityRequest, IdentityReply, FileDumpHeader, FileDumpPacket, FileDumpRequest, TuningBulkDumpRequest, KeyBasedTuningDump, BankTuningBulkDumpRequest, BankKeyBasedTuningDump, ScaleTuningDump1Byte, ScaleTuningDump2Byte, TuningNoteChange, ScaleTuning1Byte, ScaleTuning2Byte, GeneralMidi1, GeneralMidiOff, GeneralMidi2, FileReferenceOpen, SelectSoundFile, SelectWAV, FileReferenceOpenSelect, FileReferenceClose, EOF, Wait, Cancel, NAK, ACK}
 use Rattle.messages.specs.declared.«system_exclusive».ManufacturerID.the-variants.{OneByte, Extended}
 use Rattle.messages.specs.declared.«file_reference».FileReferenceType.the-variants.{DLS, SF2, WAV}

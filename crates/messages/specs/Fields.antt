@@ -16,7 +16,7 @@ use Rattle.util.proofs.Laws.Groups.{both-true, true-seven}
 use Rattle.util.proofs.Laws.Signed.{biased-unbiased}
 use Rattle.util.specs.Options.{unless}
 use Rattle.messages.specs.Types.{Refusal, DeviceID, MaybeTuning, TuningBank, LoopNumber, FileType}
-use Rattle.messages.specs.declared.refusal.Refusal.the-variants.{High, Long, Value}
+use Rattle.util.specs.declared.refusal.Refusal.the-variants.{High, Long, Value}
 use Rattle.messages.specs.declared.«system_exclusive».DeviceID.the-variants.{Device, AllCall}
 use Rattle.messages.specs.declared.tuning.MaybeTuning.the-variants.{NoTuning, Tuned}
 use Rattle.messages.specs.declared.tuning.TuningBank.the-variants.{NoBank, Bank}

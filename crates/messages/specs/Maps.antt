@@ -9,7 +9,7 @@ use lib.IntN.{pos}
 use lib.ListN.{length, length-append}
 use Rattle.util.proofs.Laws.Groups.{seven-true}
 use Rattle.messages.specs.Types.{SoundFileMap, WAVMap, FileReferenceType}
-use Rattle.messages.specs.declared.refusal.Refusal.the-variants.{Kind}
+use Rattle.util.specs.declared.refusal.Refusal.the-variants.{Kind}
 use Rattle.messages.specs.declared.«file_reference».FileReferenceType.the-variants.{DLS, SF2, WAV}
 use Rattle.messages.specs.format.{Part, Whole, _⊗_, _⊗w_, end, lit, Tag, tagged, choose, Names, _named_, _namedW_, Either, left, right, either, never, other-length, counted, all-bytes}
 use Rattle.messages.specs.Fields.{u7, u14, s14, flag, flags, url}

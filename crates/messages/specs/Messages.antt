@@ -10,8 +10,9 @@ use Rattle.util.specs.Groups.{seven}
 use Rattle.util.specs.Checksum.{checksum}
 use Rattle.util.specs.Options.{only-if}
 use Rattle.messages.specs.Types.{Refusal, Head, Kind, DeviceID}
-use Rattle.messages.specs.declared.refusal.Refusal.the-variants as R
-use Rattle.messages.specs.Refusals.{number, least}
+use Rattle.util.specs.declared.refusal.Refusal.the-variants as R
+use Rattle.util.specs.Refusals.{number}
+use Rattle.messages.specs.Refusals.{least}
 use Rattle.messages.specs.format.{Got, bad, got, bind, bindW, strip, after, find}
 use Rattle.messages.specs.Fields as field
 use Rattle.messages.specs.Layouts.{Fields, form, code, summed, reads, all-heads, file-data-in, entries-in}

@@ -7,7 +7,7 @@ use mathlib.Core.List.{List, [], _∷_, _++_}
 use Prim.Native.Nat.{ℕ, _+_, _<_, _≤_}
 use lib.ListN.{length, getD, take, drop}
 use Rattle.util.specs.Groups.{Seven}
-use Rattle.messages.specs.declared.refusal.Refusal.the-variants as R
+use Rattle.util.specs.declared.refusal.Refusal.the-variants as R
 use Rattle.messages.specs.Types.{Head, Kind}
 use Rattle.messages.specs.Layouts.{code, summed, reads}
 use Rattle.messages.specs.Messages.{Message, refused, given, refusal, settle, writeOf, Settled, SettledFor, readOf}

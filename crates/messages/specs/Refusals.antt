@@ -1,29 +1,11 @@
--- Refusals (01, "Refusals by the place of checking"): their numbers, and which of several is given.
+-- Refusals (01, "Refusals by the place of checking"): which of several is given.
 use mathlib.Core.Path.{_≡_}
 use mathlib.Core.Option.{Option, none}
 use Prim.Native.Nat.{ℕ}
 use Rattle.util.specs.Options.{least-by}
 use Rattle.util.proofs.Laws.Options.{least-by-none, none-by-both}
+use Rattle.util.specs.Refusals.{number}
 use Rattle.messages.specs.Types.{Refusal}
-use Rattle.messages.specs.declared.refusal.Refusal.the-variants.{High, Long, Value, Kind, Space, Shape, Head, Field, Sum, Hold, Stream, Index, UnexpectedEnd, ByteOverflow, NotImplemented}
-
--- the column "No."
-abbrev pub number : Refusal → ℕ
-number High = 1
-number Long = 2
-number Value = 3
-number Kind = 4
-number Space = 5
-number Shape = 6
-number Head = 7
-number Field = 8
-number Sum = 9
-number Hold = 10
-number Stream = 11
-number Index = 12
-number UnexpectedEnd = 13
-number ByteOverflow = 14
-number NotImplemented = 15
 
 -- "Within a place the order is the table's": the place in that order, apart from the number
 abbrev pub rank : Refusal → ℕ

@@ -9,7 +9,7 @@ use lib.ListN.{length}
 use borrow.Author.Tests.{le-leb}
 use Rattle.util.specs.Options.{unless}
 use Rattle.messages.specs.Types.{LoopType, ExtendedLoopType, MaybeTuning, KeyTuning, Scale1Byte, Scale2Byte, IdentityReply, SoftwareRevision, ManufacturerID}
-use Rattle.messages.specs.declared.refusal.Refusal.the-variants.{Long}
+use Rattle.util.specs.declared.refusal.Refusal.the-variants.{Long}
 use Rattle.messages.specs.declared.«sample_dump».LoopType.the-variants.{Forward, BiDirectional, Off}
 use Rattle.messages.specs.declared.«sample_dump».ExtendedLoopType.the-variants as ext
 use Rattle.messages.specs.declared.tuning.MaybeTuning.the-variants.{Tuned}

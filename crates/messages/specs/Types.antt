@@ -1,6 +1,6 @@
 -- The types that the code declares, as one list of names.
 pub use Rattle.messages.specs.declared.head.Head.{Head}
-pub use Rattle.messages.specs.declared.refusal.Refusal.{Refusal}
+pub use Rattle.util.specs.declared.refusal.Refusal.{Refusal}
 pub use Rattle.messages.specs.declared.tuning.KeyTuning.{KeyTuning}
 pub use Rattle.messages.specs.declared.tuning.MaybeTuning.{MaybeTuning}
 pub use Rattle.messages.specs.declared.tuning.Scale1Byte.{Scale1Byte}

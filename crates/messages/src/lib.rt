@@ -3,7 +3,6 @@ pub mod file_dump;
 pub mod file_reference;
 pub mod general_midi;
 pub mod head;
-pub mod refusal;
 pub mod sample_dump;
 pub mod system_exclusive;
 pub mod tuning;

@@ -12,7 +12,7 @@ use lib.Pow.{pow-pos, high, low}
 use lib.Ieee.{Float, nan, inf, fin, up, down, lt, round, size, span, climb, odd, units, mul, div}
 use lib.Ieee.Fits.{down-pos}
 use borrow.Author.Tests.{lt-ltb}
-use Rattle.messages.specs.declared.refusal.Refusal.the-variants.{Value}
+use Rattle.util.specs.declared.refusal.Refusal.the-variants.{Value}
 use Rattle.messages.specs.declared.«system_exclusive».DeviceID.{DeviceID}
 use Rattle.messages.specs.declared.«system_exclusive».UniversalNonRealTimeMsg.the-variants.{ExtendedSampleDump}
 use Rattle.messages.specs.declared.«sample_dump».ExtendedSampleDumpMsg.{ExtendedSampleDumpMsg}

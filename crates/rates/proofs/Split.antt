@@ -14,7 +14,7 @@ use lib.Ieee.Exact.{HasValue}
 use lib.Ieee.Nearest.{div-same}
 use borrow.Author.Tests.{lt-ltb, le-ltb, ltb-true, ltb-false}
 use Rattle.rates.specs.declared.SplitAnswer.the-variants.{Pair, Refused}
-use Rattle.messages.specs.declared.refusal.Refusal.the-variants.{Value}
+use Rattle.util.specs.declared.refusal.Refusal.the-variants.{Value}
 use Rattle.rates.specs.Digits.{digits-of}
 use Rattle.rates.specs.Rate.{parts-of, split-of}
 use Rattle.rates.proofs.Values.{rest-value}

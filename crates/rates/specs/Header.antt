@@ -3,7 +3,7 @@ use Prim.Native.Nat.{ℕ}
 use lib.Ieee.{Float}
 use Rattle.messages.specs.declared.«sample_dump».ExtendedLoopType.{ExtendedLoopType}
 use Rattle.messages.specs.declared.«sample_dump».ExtendedSampleDumpMsg.the-variants.{Header}
-use Rattle.messages.specs.Refusals.{number}
+use Rattle.util.specs.Refusals.{number}
 use Rattle.rates.specs.declared.SplitAnswer.{SplitAnswer}
 use Rattle.rates.specs.declared.SplitAnswer.the-variants as split
 use Rattle.rates.specs.declared.HeaderAnswer.{HeaderAnswer}

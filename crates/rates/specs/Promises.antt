@@ -10,7 +10,7 @@ use lib.Ieee.{Float, nan, inf, fin, up, down}
 use lib.Ieee.Exact.{HasValue}
 use lib.Ieee.Positive.{num, den}
 use Rattle.util.specs.Groups.{groups}
-use Rattle.messages.specs.declared.refusal.Refusal.the-variants.{Value}
+use Rattle.util.specs.declared.refusal.Refusal.the-variants.{Value}
 use Rattle.messages.specs.declared.«system_exclusive».DeviceID.{DeviceID}
 use Rattle.messages.specs.declared.«sample_dump».ExtendedSampleDumpMsg.{ExtendedSampleDumpMsg}
 use Rattle.messages.specs.declared.«sample_dump».ExtendedLoopType.{ExtendedLoopType}

@@ -3,8 +3,8 @@ use Prim.Native.Nat.{ℕ, _+_, _*_, _/_, _%_, _^_}
 use mathlib.Core.Bool.{false, cond}
 use lib.Dec.{ltb}
 use lib.Ieee.{Float, nan, inf, fin, binary64, up, down, round}
-use Rattle.messages.specs.declared.refusal.Refusal.the-variants.{Value}
-use Rattle.messages.specs.Refusals.{number}
+use Rattle.util.specs.declared.refusal.Refusal.the-variants.{Value}
+use Rattle.util.specs.Refusals.{number}
 use Rattle.rates.specs.declared.SplitAnswer.{SplitAnswer}
 use Rattle.rates.specs.declared.SplitAnswer.the-variants.{Pair, Refused}
 

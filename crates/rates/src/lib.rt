@@ -1,8 +1,8 @@
 // Rates and cents (01, "Beside the walk"): numbers of a frame that are worked out from a float, and a rate from its two numbers.
 // Each contract equates the answer with a definition of specs/, for every input.
-use messages::refusal::Refusal;
 use messages::sample_dump::ExtendedLoopType;
 use messages::sample_dump::ExtendedSampleDumpMsg;
+use util::refusal::Refusal;
 ghost use mathlib.Core.Path.{_≡_};
 ghost use Prim.Native.Nat.{_+_, _/_};
 ghost use Rattle.rates.specs.Digits.{digits-of};

@@ -1,7 +1,7 @@
 // Op 1: a message is written to outputs of several lengths, and each answer and output is held to the case.
-use messages::refusal::Refusal;
 use messages::system_exclusive::DeviceID;
 use messages::system_exclusive::UniversalNonRealTimeMsg;
+use util::refusal::Refusal;
 use writer::Written;
 ghost use Prim.Native.Nat.{_+_, _≤_};
 ghost use lib.ListN.{length};

@@ -12,8 +12,8 @@ use borrow.Author.Tests.{leb-true, leb-false}
 use Rattle.util.specs.Pick.{pick}
 use Rattle.util.specs.Splice.{splice}
 use Rattle.util.proofs.Laws.Splice.{length-splice}
-use Rattle.messages.specs.declared.refusal.Refusal.{Refusal}
-use Rattle.messages.specs.declared.refusal.Refusal.the-variants.{Space}
+use Rattle.util.specs.declared.refusal.Refusal.{Refusal}
+use Rattle.util.specs.declared.refusal.Refusal.the-variants.{Space}
 use Rattle.messages.specs.Messages.{Answer, refused, given, writeOf}
 use Rattle.messages.proofs.Exact.{writes-settled, written-reads}
 use Rattle.writer.specs.declared.Written.the-variants.{Frame, Refused}

@@ -5,7 +5,7 @@ use mathlib.Core.List.{List, [], _∷_, _++_}
 use Prim.Native.Nat.{ℕ}
 use lib.ListN.{length}
 use Rattle.util.specs.Checksum.{checksum}
-use Rattle.messages.specs.declared.refusal.Refusal.{Refusal}
+use Rattle.util.specs.declared.refusal.Refusal.{Refusal}
 use Rattle.messages.specs.declared.«system_exclusive».DeviceID.{DeviceID}
 use Rattle.messages.specs.declared.«system_exclusive».UniversalNonRealTimeMsg.{UniversalNonRealTimeMsg}
 use Rattle.messages.specs.declared.«file_dump».FileType.{FileType}

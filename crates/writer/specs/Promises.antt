@@ -5,8 +5,8 @@ use mathlib.Core.Bool.{true}
 use mathlib.Core.List.{List}
 use Prim.Native.Nat.{ℕ, _+_, _<_}
 use lib.ListN.{length, take, drop}
-use Rattle.messages.specs.declared.refusal.Refusal.{Refusal}
-use Rattle.messages.specs.declared.refusal.Refusal.the-variants.{Space}
+use Rattle.util.specs.declared.refusal.Refusal.{Refusal}
+use Rattle.util.specs.declared.refusal.Refusal.the-variants.{Space}
 use Rattle.messages.specs.declared.«file_reference».Kind.{Kind}
 use Rattle.messages.specs.Layouts.{reads}
 use Rattle.messages.specs.Messages.{Message, given, settle, writeOf, Settled, readOf}

@@ -7,9 +7,9 @@ use lib.Dec.{leb}
 use lib.ListN.{length}
 use Rattle.util.specs.Pick.{pick}
 use Rattle.util.specs.Splice.{splice}
-use Rattle.messages.specs.declared.refusal.Refusal.{Refusal}
-use Rattle.messages.specs.declared.refusal.Refusal.the-variants.{Space}
-use Rattle.messages.specs.Refusals.{number}
+use Rattle.util.specs.declared.refusal.Refusal.{Refusal}
+use Rattle.util.specs.declared.refusal.Refusal.the-variants.{Space}
+use Rattle.util.specs.Refusals.{number}
 use Rattle.messages.specs.Messages.{Answer, refused, given}
 use Rattle.writer.specs.declared.Written.{Written}
 use Rattle.writer.specs.declared.Written.the-variants.{Frame, Refused}

@@ -2,10 +2,10 @@
 pub mod refusals;
 
 use messages::file_dump::FileDumpMsg;
-use messages::refusal::Refusal;
 use messages::sample_dump::SampleDumpMsg;
 use messages::system_exclusive::DeviceID;
 use messages::system_exclusive::UniversalNonRealTimeMsg;
+use util::refusal::Refusal;
 ghost use mathlib.Core.Path.{_≡_};
 ghost use mathlib.Core.Option.{none};
 ghost use mathlib.Core.List.{[], _++_};

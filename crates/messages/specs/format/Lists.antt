@@ -15,7 +15,7 @@ use Rattle.util.proofs.Laws.Groups.{seven-append, seven-true, true-seven}
 use Rattle.util.specs.Options.{only-if, unless}
 use Rattle.util.proofs.Laws.Options.{only-if-some, unless-none}
 use Rattle.messages.specs.Types.{Refusal}
-use Rattle.messages.specs.declared.refusal.Refusal.the-variants.{High}
+use Rattle.util.specs.declared.refusal.Refusal.the-variants.{High}
 use Rattle.messages.specs.Refusals.{least, least-none, none-both}
 use Rattle.messages.specs.format.Core.{Got, bad, got, guard, bind, Part, Whole, bad-got, guard-got, bind-got}
 

@@ -13,7 +13,7 @@ use Rattle.util.specs.Packing.{pack, unpack, Bytes}
 use Rattle.util.proofs.Laws.Groups.{seven-true, true-seven}
 use Rattle.util.proofs.Laws.Options.{none-some, only-if-some, unless-none}
 use Rattle.util.proofs.Laws.Packing.{unpack-pack, unpack-only, pack-seven}
-use Rattle.messages.specs.declared.refusal.Refusal.the-variants.{Long}
+use Rattle.util.specs.declared.refusal.Refusal.the-variants.{Long}
 use Rattle.messages.specs.format.Core.{Whole}
 
 -- ---- the count byte, and the packed data

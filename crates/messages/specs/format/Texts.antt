@@ -13,7 +13,7 @@ use Rattle.util.specs.Groups.{Seven}
 use Rattle.util.proofs.Laws.Groups.{both-true}
 use Rattle.util.specs.Options.{unless}
 use Rattle.util.proofs.Laws.Options.{unless-none}
-use Rattle.messages.specs.declared.refusal.Refusal.the-variants.{High}
+use Rattle.util.specs.declared.refusal.Refusal.the-variants.{High}
 use Rattle.util.specs.Pick.{pick}
 use Rattle.messages.specs.format.Core.{Got, bad, got, guard, bind, Part, bad-got, guard-got, bind-got}
 

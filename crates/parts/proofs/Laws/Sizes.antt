@@ -9,7 +9,7 @@ use lib.Dec.{leb}
 use lib.ListN.{length, take, length-append, length-take, length-map}
 use borrow.Author.Tests.{leb-true}
 use Rattle.util.proofs.Laws.Options.{unless-none}
-use Rattle.messages.specs.declared.refusal.Refusal.the-variants.{Long}
+use Rattle.util.specs.declared.refusal.Refusal.the-variants.{Long}
 use Rattle.messages.specs.declared.tuning.MaybeTuning.the-variants.{Tuned}
 use Rattle.messages.specs.declared.«sample_dump».SampleDumpMsg.{SampleDumpMsg}
 use Rattle.messages.specs.declared.«sample_dump».ExtendedSampleDumpMsg.{ExtendedSampleDumpMsg}

@@ -10,8 +10,8 @@ use lib.ListN.{length, getD}
 use borrow.Author.Tests.{le-leb, lt-leb}
 use Rattle.util.specs.Packing.{Bytes}
 use Rattle.util.specs.Splice.{splice}
-use Rattle.messages.specs.declared.refusal.Refusal.{Refusal}
-use Rattle.messages.specs.declared.refusal.Refusal.the-variants.{Space}
+use Rattle.util.specs.declared.refusal.Refusal.{Refusal}
+use Rattle.util.specs.declared.refusal.Refusal.the-variants.{Space}
 use Rattle.messages.specs.declared.«system_exclusive».DeviceID.{DeviceID}
 use Rattle.messages.specs.declared.«system_exclusive».UniversalNonRealTimeMsg.{UniversalNonRealTimeMsg}
 use Rattle.messages.specs.Messages.{refused, given, writeOf}

@@ -13,7 +13,7 @@ use lib.Seq.{drop-cons}
 use borrow.Author.Tests.{lt-ltb, le-ltb}
 use Rattle.util.specs.Pick.{pick}
 use Rattle.util.specs.Options.{unless}
-use Rattle.messages.specs.declared.refusal.Refusal.the-variants.{High, Long, Value}
+use Rattle.util.specs.declared.refusal.Refusal.the-variants.{High, Long, Value}
 use Rattle.messages.specs.declared.«sample_dump».SampleDumpMsg.{SampleDumpMsg}
 use Rattle.messages.specs.declared.«sample_dump».SampleDumpMsg.the-variants as sample
 use Rattle.messages.specs.declared.tuning.TuningBank.{TuningBank}

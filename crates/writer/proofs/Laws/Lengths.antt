@@ -10,7 +10,7 @@ use lib.ListN.{length}
 use borrow.Author.Tests.{leb-true}
 use Rattle.util.specs.Options.{unless}
 use Rattle.util.proofs.Laws.Options.{unless-none}
-use Rattle.messages.specs.declared.refusal.Refusal.the-variants.{Long}
+use Rattle.util.specs.declared.refusal.Refusal.the-variants.{Long}
 use Rattle.messages.specs.declared.«sample_dump».SampleDumpMsg.{SampleDumpMsg}
 use Rattle.messages.specs.declared.«sample_dump».SampleDumpMsg.the-variants as sample
 use Rattle.messages.specs.declared.«sample_dump».ExtendedSampleDumpMsg.{ExtendedSampleDumpMsg}

@@ -9,7 +9,7 @@ use lib.Dec.{lit≤}
 use lib.ListN.{length, take, length-append, length-take}
 use Rattle.util.specs.Groups.{groups, held}
 use Rattle.util.proofs.Laws.Options.{some-none}
-use Rattle.messages.specs.declared.refusal.Refusal.the-variants.{Kind}
+use Rattle.util.specs.declared.refusal.Refusal.the-variants.{Kind}
 use Rattle.messages.specs.declared.head.Head.the-variants as head
 use Rattle.messages.specs.declared.«file_reference».FileReferenceType.{FileReferenceType}
 use Rattle.messages.specs.declared.«file_reference».FileReferenceType.the-variants.{DLS, SF2, WAV}
