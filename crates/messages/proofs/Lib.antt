@@ -3,6 +3,7 @@ pub mod Exact
 pub mod Rows
 pub mod Sums
 pub mod Contents
+pub mod Header
 pub mod Walk
 pub mod Worked
 pub mod Formats

@@ -10,5 +10,6 @@ pub mod Layouts
 pub mod Messages
 pub mod Contents
 pub mod Walk
-pub mod Promises
 pub mod MessageOf
+pub mod Header
+pub mod Promises

@@ -5,13 +5,19 @@ use mathlib.Core.Bool.{true}
 use mathlib.Core.Option.{none}
 use mathlib.Core.List.{List, [], _∷_, _++_}
 use Prim.Native.Nat.{ℕ, _+_, _<_, _≤_}
+use lib.Ieee.{Float}
 use lib.ListN.{length, getD, take, drop}
 use Rattle.util.specs.Groups.{Seven}
 use Rattle.util.specs.declared.refusal.Refusal.the-variants as R
-use Rattle.messages.specs.Types.{Head, Kind}
+use Rattle.rates.specs.Rate.{split-of, numbers-of}
+use Rattle.messages.specs.Types.{Head, Kind, DeviceID, ExtendedSampleDumpMsg, ExtendedLoopType}
+use Rattle.messages.specs.declared.«sample_dump».HeaderAnswer.the-variants as header
+use Rattle.messages.specs.declared.«system_exclusive».UniversalNonRealTimeMsg.the-variants.{ExtendedSampleDump}
 use Rattle.messages.specs.Layouts.{code, summed, reads}
 use Rattle.messages.specs.Messages.{Message, refused, given, refusal, settle, writeOf, Settled, SettledFor, readOf}
 use Rattle.messages.specs.Contents.{contents}
+use Rattle.messages.specs.MessageOf.{messageOf}
+use Rattle.messages.specs.Header.{header-of, header-number}
 use Rattle.messages.specs.Walk.{Listed, Rising, since, frames}
 
 -- bs is the frame of m
@@ -129,3 +135,17 @@ abbrev pub SameFromThere : Type 0
 SameFromThere =
     (k : Kind) (s t : List ℕ) (a b : ℕ) → a < length s → b < length t → getD s a 0 ≡ 0xF0 → getD t b 0 ≡ 0xF0
     → drop a s ≡ drop b t → since a (frames k s) ≡ since b (frames k t)
+
+-- ---- the extended header
+
+-- a header is refused as its rate is: the header's number is the split's
+abbrev pub HeaderAsSplit : Type 0
+HeaderAsSplit =
+    (n b : ℕ) (x : Float) (l s e : ℕ) (t : ExtendedLoopType) (c : ℕ)
+    → header-number (header-of n b x l s e t c) ≡ numbers-of (split-of x) .number
+
+-- the message of a header made from an f64 is not refused: no number of it is a u28 of 2^28 or more
+abbrev pub HeaderAdmitted : Type 0
+HeaderAdmitted =
+    (d : DeviceID) (n b : ℕ) (x : Float) (l s e : ℕ) (t : ExtendedLoopType) (c : ℕ) (m : ExtendedSampleDumpMsg) (text entries : List ℕ)
+    → header-of n b x l s e t c ≡ header.Message m → refusal (messageOf d (ExtendedSampleDump m) text entries) ≡ none

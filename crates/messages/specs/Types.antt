@@ -17,6 +17,7 @@ pub use Rattle.messages.specs.declared.«file_reference».WAVMap.{WAVMap
 pub use Rattle.messages.specs.declared.«general_midi».GeneralMidi.{GeneralMidi}
 pub use Rattle.messages.specs.declared.«sample_dump».ExtendedLoopType.{ExtendedLoopType}
 pub use Rattle.messages.specs.declared.«sample_dump».ExtendedSampleDumpMsg.{ExtendedSampleDumpMsg}
+pub use Rattle.messages.specs.declared.«sample_dump».HeaderAnswer.{HeaderAnswer}
 pub use Rattle.messages.specs.declared.«sample_dump».LoopNumber.{LoopNumber}
 pub use Rattle.messages.specs.declared.«sample_dump».LoopType.{LoopType}
 pub use Rattle.messages.specs.declared.«sample_dump».SampleDumpMsg.{SampleDumpMsg}

@@ -1,7 +1,10 @@
 // Sample dumps and extended sample dumps (CA-019). Sample bytes and names are lent beside these.
 use super::head::Head;
+use rates::SplitAnswer;
+use util::refusal::Refusal;
 ghost use mathlib.Core.Path.{_≡_};
 ghost use Rattle.messages.specs.MessageOf.{head-sample, head-extended};
+ghost use Rattle.messages.specs.Header.{header-of};
 
 pub enum LoopType {
     Forward,
@@ -91,6 +94,12 @@ pub enum ExtendedSampleDumpMsg {
     },
 }
 
+// An extended header; or a refusal.
+pub enum HeaderAnswer {
+    Message(ExtendedSampleDumpMsg),
+    Refused(Refusal),
+}
+
 impl SampleDumpMsg {
     // The head of the message.
     pub fn head(self) -> Head
@@ -118,6 +127,36 @@ impl ExtendedSampleDumpMsg {
             ExtendedSampleDumpMsg::LoopPointTransmission { .. } =>
                 Head::ExtendedLoopPointTransmission,
             ExtendedSampleDumpMsg::LoopPointsRequest { .. } => Head::ExtendedLoopPointsRequest,
+        }
+    }
+
+    // A header from its rate as a float; refused as the split is.
+    pub fn header(
+        sample_num: u16,
+        format: u8,
+        sample_rate: f64,
+        length: u64,
+        sustain_loop_start: u64,
+        sustain_loop_end: u64,
+        loop_type: ExtendedLoopType,
+        num_channels: u8,
+    ) -> HeaderAnswer
+        ensures { λ r. ⌜ r ≡ header-of «sample_num» format «sample_rate» length «sustain_loop_start» «sustain_loop_end» «loop_type» «num_channels» ⌝ }
+    {
+        match rates::split_rate(sample_rate) {
+            SplitAnswer::Pair { whole, fraction } =>
+                HeaderAnswer::Message(ExtendedSampleDumpMsg::Header {
+                    sample_num,
+                    format,
+                    sample_rate_integer: whole,
+                    sample_rate_fraction: fraction,
+                    length,
+                    sustain_loop_start,
+                    sustain_loop_end,
+                    loop_type,
+                    num_channels,
+                }),
+            SplitAnswer::Refused(refusal) => HeaderAnswer::Refused(refusal),
         }
     }
 }

@@ -2,8 +2,6 @@
 -- Assumes nothing.
 use mathlib.Core.Path.{_≡_, refl, sym, ap, ap₂, _∙_, subst}
 use mathlib.Core.Bool.{Bool, true, false, not, cond, true≢false}
-use mathlib.Core.Option.{none}
-use mathlib.Core.List.{List}
 use Prim.Native.Nat.{ℕ, _+_, _*_, _/_, _%_, _^_, _≤_, _<_}
 use native.Mathlib.Nat.{div-lt-iff-lt-mul}
 use native.Mathlib.Omega.{arith}
@@ -11,23 +9,11 @@ use lib.Dec.{T, ltb, ltb→lt, nltb→le, lit<}
 use lib.Pow.{pow-pos, high, low}
 use lib.Ieee.{Float, nan, inf, fin, up, down, lt, round, size, span, climb, odd, units, mul, div}
 use lib.Ieee.Fits.{down-pos}
-use borrow.Author.Tests.{lt-ltb}
 use Rattle.util.specs.declared.refusal.Refusal.the-variants.{Value}
-use Rattle.messages.specs.declared.«system_exclusive».DeviceID.{DeviceID}
-use Rattle.messages.specs.declared.«system_exclusive».UniversalNonRealTimeMsg.the-variants.{ExtendedSampleDump}
-use Rattle.messages.specs.declared.«sample_dump».ExtendedSampleDumpMsg.{ExtendedSampleDumpMsg}
-use Rattle.messages.specs.declared.«sample_dump».ExtendedSampleDumpMsg.the-variants.{Header}
-use Rattle.messages.specs.declared.«sample_dump».ExtendedLoopType.{ExtendedLoopType}
-use Rattle.messages.specs.Messages.{refusal}
-use Rattle.messages.specs.MessageOf.{messageOf}
-use Rattle.messages.proofs.Contents.{refused-exactly}
-use Rattle.rates.specs.declared.SplitAnswer.{SplitAnswer}
 use Rattle.rates.specs.declared.SplitAnswer.the-variants.{Pair, Refused}
-use Rattle.rates.specs.declared.HeaderAnswer.the-variants as header
 use Rattle.rates.specs.Rate.{parts-of, split-of, SplitNumbers, numbers-of, total, join-of}
 use Rattle.rates.specs.Cents.{hold-of, scaled-of, nearest-of, cents-of}
-use Rattle.rates.specs.Header.{with-rate, header-number}
-use Rattle.rates.specs.Promises.{SplitParts, SplitBelowZero, SplitRefused, Units, Within4, JoinNear, JoinExact, JoinFourAttained, JoinSplit, JoinFirstOther, JoinTopRefused, CentsHeld, CentsNear, CentsTop, CentsNan, CentsHalf, HeaderAsSplit, HeaderAdmitted, Worked}
+use Rattle.rates.specs.Promises.{SplitParts, SplitBelowZero, SplitRefused, SplitFits, Units, Within4, JoinNear, JoinExact, JoinFourAttained, JoinSplit, JoinFirstOther, JoinTopRefused, CentsHeld, CentsNear, CentsTop, CentsNan, CentsHalf, Worked}
 use Rattle.rates.proofs.Split.{floor, rest-small, in-range, past-range, parts-value}
 use Rattle.rates.proofs.Join.{held-exactly, within, joined}
 use Rattle.rates.proofs.Cents.{hold-value, scaled, within-51, top}
@@ -70,6 +56,33 @@ split-refused (inf true) = (λ p. absurd (not-3 0 0 p), λ q. absurd (true≢fal
 split-refused (inf false) = (λ p. refl, λ q. refl)
 split-refused (fin true m e) = (λ p. absurd (not-3 0 0 p), λ q. absurd (true≢false (q .0)))
 split-refused (fin false m e) = (λ p. (refl, refused-only (m * up e) (down e) p), λ q. ap numbers-of (sym (past-range (m * up e) (down e) (q .1))))
+
+small : (w f : ℕ) → Pair 0 0 ≡ Pair w f → (w < 2 ^ 28) × (f < 2 ^ 28)
+small w f p =
+    let W : w ≡ 0 = cc in
+    let F : f ≡ 0 = cc in
+    (omega arith, omega arith)
+
+never : (w f : ℕ) → Refused Value ≡ Pair w f → ⊥
+never w f p = let z : _≡_ {A = ℕ} 0 1 = cc in omega arith
+
+fit-parts : (a c w f : ℕ) → 0 < c → parts-of a c ≡ Pair w f → (w < 2 ^ 28) × (f < 2 ^ 28)
+fit-parts a c w f C = go (ltb a (2 ^ 28 * c)) (ltb→lt a (2 ^ 28 * c))
+  where
+    go : (b : Bool) → (T b → a < 2 ^ 28 * c) → cond b (Pair (a / c) (a % c * 2 ^ 28 / c)) (Refused Value) ≡ Pair w f → (w < 2 ^ 28) × (f < 2 ^ 28)
+    go true h p =
+        let W : a / c ≡ w = cc in
+        let F : a % c * 2 ^ 28 / c ≡ f = cc in
+        (subst (λ (z : ℕ). z < 2 ^ 28) W (div-lt-iff-lt-mul C .1 (h tt)), subst (λ (z : ℕ). z < 2 ^ 28) F (div-lt-iff-lt-mul C .1 (rest-small a c C)))
+    go false h p = absurd (never w f p)
+
+pub split-fits : SplitFits
+unfolding split-of
+split-fits nan w f p = absurd (never w f p)
+split-fits (inf true) w f p = small w f p
+split-fits (inf false) w f p = absurd (never w f p)
+split-fits (fin true m e) w f p = small w f p
+split-fits (fin false m e) w f p = fit-parts (m * up e) (down e) w f (down-pos e) p
 
 -- ---- a pair, joined
 
@@ -135,56 +148,6 @@ cents-nan = refl
 pub cents-half : CentsHalf
 unfolding nearest-of scaled-of hold-of lt mul div round units odd size span climb
 cents-half = record { scaled = refl; answer = refl; past-50 = lit< tt }
-
--- ---- the extended header
-
-number-same : (a : SplitAnswer) (n b l s e : ℕ) (t : ExtendedLoopType) (c : ℕ) → header-number (with-rate a n b l s e t c) ≡ numbers-of a .number
-number-same (Pair w f) n b l s e t c = refl
-number-same (Refused r) n b l s e t c = refl
-
-pub header-as-split : HeaderAsSplit
-header-as-split n b x l s e t c = number-same (split-of x) n b l s e t c
-
-small : (w f : ℕ) → Pair 0 0 ≡ Pair w f → (w < 2 ^ 28) × (f < 2 ^ 28)
-small w f p =
-    let W : w ≡ 0 = cc in
-    let F : f ≡ 0 = cc in
-    (omega arith, omega arith)
-
-never : (w f : ℕ) → Refused Value ≡ Pair w f → ⊥
-never w f p = let z : _≡_ {A = ℕ} 0 1 = cc in omega arith
-
-fit-parts : (a c w f : ℕ) → 0 < c → parts-of a c ≡ Pair w f → (w < 2 ^ 28) × (f < 2 ^ 28)
-fit-parts a c w f C = go (ltb a (2 ^ 28 * c)) (ltb→lt a (2 ^ 28 * c))
-  where
-    go : (b : Bool) → (T b → a < 2 ^ 28 * c) → cond b (Pair (a / c) (a % c * 2 ^ 28 / c)) (Refused Value) ≡ Pair w f → (w < 2 ^ 28) × (f < 2 ^ 28)
-    go true h p =
-        let W : a / c ≡ w = cc in
-        let F : a % c * 2 ^ 28 / c ≡ f = cc in
-        (subst (λ (z : ℕ). z < 2 ^ 28) W (div-lt-iff-lt-mul C .1 (h tt)), subst (λ (z : ℕ). z < 2 ^ 28) F (div-lt-iff-lt-mul C .1 (rest-small a c C)))
-    go false h p = absurd (never w f p)
-
-fit : (x : Float) (w f : ℕ) → split-of x ≡ Pair w f → (w < 2 ^ 28) × (f < 2 ^ 28)
-unfolding split-of
-fit nan w f p = absurd (never w f p)
-fit (inf true) w f p = small w f p
-fit (inf false) w f p = absurd (never w f p)
-fit (fin true m e) w f p = small w f p
-fit (fin false m e) w f p = fit-parts (m * up e) (down e) w f (down-pos e) p
-
-admitted : (d : DeviceID) (n b w f l s e : ℕ) (t : ExtendedLoopType) (c : ℕ) (text entries : List ℕ) → w < 2 ^ 28 → f < 2 ^ 28 → refusal (messageOf d (ExtendedSampleDump (Header n b w f l s e t c)) text entries) ≡ none
-admitted d n b w f l s e t c text entries W F =
-    refused-exactly (messageOf d (ExtendedSampleDump (Header n b w f l s e t c)) text entries)
-    ∙ rw (lt-ltb w (2 ^ 28) W, lt-ltb f (2 ^ 28) F)
-
-pub header-admitted : HeaderAdmitted
-header-admitted d n b x l s e t c m text entries = go (split-of x) (fit x)
-  where
-    go : (a : SplitAnswer) → ((w f : ℕ) → a ≡ Pair w f → (w < 2 ^ 28) × (f < 2 ^ 28)) → with-rate a n b l s e t c ≡ header.Message m → refusal (messageOf d (ExtendedSampleDump m) text entries) ≡ none
-    go (Pair w f) h p =
-        let z : Header n b w f l s e t c ≡ m = cc in
-        subst (λ (y : ExtendedSampleDumpMsg). refusal (messageOf d (ExtendedSampleDump y) text entries) ≡ none) z (admitted d n b w f l s e t c text entries (h w f refl .0) (h w f refl .1))
-    go (Refused r) h p = let z : _≡_ {A = ℕ} 0 1 = cc in absurd (omega arith)
 
 -- ---- worked out
 

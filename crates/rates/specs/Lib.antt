@@ -1,5 +1,4 @@
 pub mod Digits
 pub mod Rate
 pub mod Cents
-pub mod Header
 pub mod Promises

@@ -2,7 +2,6 @@
 use mathlib.Core.Path.{_≡_}
 use mathlib.Core.Logic.{_↔_}
 use mathlib.Core.Bool.{true, false}
-use mathlib.Core.Option.{none}
 use mathlib.Core.List.{List, [], _∷_, _++_}
 use Prim.Native.Nat.{ℕ, _+_, _*_, _/_, _%_, _^_, _≤_, _<_}
 use lib.IntN.{negsuc}
@@ -11,17 +10,9 @@ use lib.Ieee.Exact.{HasValue}
 use lib.Ieee.Positive.{num, den}
 use Rattle.util.specs.Groups.{groups}
 use Rattle.util.specs.declared.refusal.Refusal.the-variants.{Value}
-use Rattle.messages.specs.declared.«system_exclusive».DeviceID.{DeviceID}
-use Rattle.messages.specs.declared.«sample_dump».ExtendedSampleDumpMsg.{ExtendedSampleDumpMsg}
-use Rattle.messages.specs.declared.«sample_dump».ExtendedLoopType.{ExtendedLoopType}
-use Rattle.messages.specs.declared.«system_exclusive».UniversalNonRealTimeMsg.the-variants.{ExtendedSampleDump}
-use Rattle.messages.specs.Messages.{refusal}
-use Rattle.messages.specs.MessageOf.{messageOf}
 use Rattle.rates.specs.declared.SplitAnswer.the-variants.{Pair, Refused}
-use Rattle.rates.specs.declared.HeaderAnswer.the-variants.{Message}
 use Rattle.rates.specs.Rate.{numbers-of, split-of, total, join-of}
 use Rattle.rates.specs.Cents.{hold-of, scaled-of, cents-of}
-use Rattle.rates.specs.Header.{header-of, header-number}
 
 -- ---- a rate, split
 
@@ -55,6 +46,10 @@ NotInRange (fin s m e) = (s ≡ false) × (2 ^ 28 * down e ≤ m * up e)
 -- row 3, VALUE, with 0 besides: exactly for such rates
 abbrev pub SplitRefused : Type 0
 SplitRefused = (x : Float) → (numbers-of (split-of x) ≡ record { number = 3; whole = 0; fraction = 0 }) ↔ NotInRange x
+
+-- both numbers of a pair are below 2^28
+abbrev pub SplitFits : Type 0
+SplitFits = (x : Float) (w f : ℕ) → split-of x ≡ Pair w f → (w < 2 ^ 28) × (f < 2 ^ 28)
 
 -- ---- a pair, joined
 
@@ -126,20 +121,6 @@ pub record CentsHalf : Type 0 where
   pub scaled : scaled-of half-cents ≡ fin false 1 (negsuc 0)
   pub answer : cents-of half-cents ≡ 1
   pub past-50 : 16383 * num half-cents + 50 * den half-cents < 100 * 1 * den half-cents
-
--- ---- the extended header
-
--- a header is refused as its rate is: the header's number is the split's
-abbrev pub HeaderAsSplit : Type 0
-HeaderAsSplit =
-    (n b : ℕ) (x : Float) (l s e : ℕ) (t : ExtendedLoopType) (c : ℕ)
-    → header-number (header-of n b x l s e t c) ≡ numbers-of (split-of x) .number
-
--- the message of a header made from an f64 is not refused: no number of it is a u28 of 2^28 or more
-abbrev pub HeaderAdmitted : Type 0
-HeaderAdmitted =
-    (d : DeviceID) (n b : ℕ) (x : Float) (l s e : ℕ) (t : ExtendedLoopType) (c : ℕ) (m : ExtendedSampleDumpMsg) (text entries : List ℕ)
-    → header-of n b x l s e t c ≡ Message m → refusal (messageOf d (ExtendedSampleDump m) text entries) ≡ none
 
 -- ---- worked out
 

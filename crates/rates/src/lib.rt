@@ -1,24 +1,15 @@
 // Rates and cents (01, "Beside the walk"): numbers of a frame that are worked out from a float, and a rate from its two numbers.
 // Each contract equates the answer with a definition of specs/, for every input.
-use messages::sample_dump::ExtendedLoopType;
-use messages::sample_dump::ExtendedSampleDumpMsg;
 use util::refusal::Refusal;
 ghost use mathlib.Core.Path.{_≡_};
 ghost use Prim.Native.Nat.{_+_, _/_};
 ghost use Rattle.rates.specs.Digits.{digits-of};
 ghost use Rattle.rates.specs.Rate.{split-of, join-of};
 ghost use Rattle.rates.specs.Cents.{hold-of, scaled-of, cents-of};
-ghost use Rattle.rates.specs.Header.{header-of};
 
 // A rate as the extended header has it, the whole part and the rest in 2^28ths; or a refusal.
 pub enum SplitAnswer {
     Pair { whole: u32, fraction: u32 },
-    Refused(Refusal),
-}
-
-// An extended header; or a refusal.
-pub enum HeaderAnswer {
-    Message(ExtendedSampleDumpMsg),
     Refused(Refusal),
 }
 
@@ -110,34 +101,4 @@ pub fn cents_to_u14(cents: f32) -> u16
     ensures { λ r. ⌜ r ≡ cents-of cents ⌝ }
 {
     nearest(f64::to_bits(scaled_cents(cents) as f64)) as u16
-}
-
-// An extended header from its rate as a float; refused as the split is.
-pub fn extended_header(
-    sample_num: u16,
-    format: u8,
-    rate: f64,
-    length: u64,
-    start: u64,
-    end: u64,
-    loop_type: ExtendedLoopType,
-    channels: u8,
-) -> HeaderAnswer
-    ensures { λ r. ⌜ r ≡ header-of «sample_num» format rate length start end «loop_type» channels ⌝ }
-{
-    match split_rate(rate) {
-        SplitAnswer::Pair { whole, fraction } =>
-            HeaderAnswer::Message(ExtendedSampleDumpMsg::Header {
-                sample_num,
-                format,
-                sample_rate_integer: whole,
-                sample_rate_fraction: fraction,
-                length,
-                sustain_loop_start: start,
-                sustain_loop_end: end,
-                loop_type,
-                num_channels: channels,
-            }),
-        SplitAnswer::Refused(refusal) => HeaderAnswer::Refused(refusal),
-    }
 }

@@ -1,14 +1,13 @@
 -- The extended header from a rate given as f64. Definitions only.
 use Prim.Native.Nat.{ℕ}
 use lib.Ieee.{Float}
-use Rattle.messages.specs.declared.«sample_dump».ExtendedLoopType.{ExtendedLoopType}
-use Rattle.messages.specs.declared.«sample_dump».ExtendedSampleDumpMsg.the-variants.{Header}
 use Rattle.util.specs.Refusals.{number}
 use Rattle.rates.specs.declared.SplitAnswer.{SplitAnswer}
 use Rattle.rates.specs.declared.SplitAnswer.the-variants as split
-use Rattle.rates.specs.declared.HeaderAnswer.{HeaderAnswer}
-use Rattle.rates.specs.declared.HeaderAnswer.the-variants.{Message, Refused}
 use Rattle.rates.specs.Rate.{split-of}
+use Rattle.messages.specs.Types.{ExtendedLoopType, HeaderAnswer}
+use Rattle.messages.specs.declared.«sample_dump».ExtendedSampleDumpMsg.the-variants.{Header}
+use Rattle.messages.specs.declared.«sample_dump».HeaderAnswer.the-variants.{Message, Refused}
 
 -- 05 05, "whole rate and 2^28ths of the rate": the header with the pair; refused as the split is
 abbrev pub with-rate : SplitAnswer → ℕ → ℕ → ℕ → ℕ → ℕ → ExtendedLoopType → ℕ → HeaderAnswer
