@@ -6,6 +6,7 @@ use messages::file_reference::SelectMap;
 use messages::file_reference::WAVMap;
 use messages::sample_dump::ExtendedLoopType;
 use messages::sample_dump::ExtendedSampleDumpMsg;
+use messages::sample_dump::HeaderAnswer;
 use messages::sample_dump::LoopType;
 use messages::sample_dump::SampleDumpMsg;
 use messages::system_exclusive::DeviceID;
@@ -184,16 +185,18 @@ fn references() {
 
 // Frame 10: the rate 44,100.5.
 fn rate() {
-    let m = ExtendedSampleDumpMsg::Header {
-        sample_num: 0,
-        format: 8,
-        sample_rate_integer: 44100,
-        sample_rate_fraction: 134217728,
-        length: 0,
-        sustain_loop_start: 0,
-        sustain_loop_end: 0,
-        loop_type: ExtendedLoopType::Forward,
-        num_channels: 0,
+    let header = ExtendedSampleDumpMsg::header(
+        0,
+        8,
+        44100.5,
+        0,
+        0,
+        0,
+        ExtendedLoopType::Forward,
+        0,
+    );
+    let HeaderAnswer::Message(m) = header else {
+        return;
     };
     part(
         b"10",
