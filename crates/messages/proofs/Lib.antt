@@ -8,3 +8,4 @@ pub mod Walk
 pub mod Worked
 pub mod Formats
 pub mod Entries
+pub mod Identity

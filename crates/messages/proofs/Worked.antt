@@ -23,9 +23,12 @@ use Rattle.messages.specs.declared.«sample_dump».ExtendedLoopType.the-
 use Rattle.messages.specs.declared.tuning.TuningBank.the-variants.{NoBank, Bank}
 use Rattle.messages.specs.declared.«system_exclusive».DeviceID.the-variants.{Device, AllCall}
 use Rattle.messages.specs.declared.«system_exclusive».ManufacturerID.the-variants.{OneByte, Extended}
+use Rattle.messages.specs.declared.«system_exclusive».IdentityReading.{IdentityReading}
+use Rattle.messages.specs.declared.«system_exclusive».IdentityReading.the-variants as identity-reading
 use Rattle.messages.specs.declared.«system_exclusive».UniversalNonRealTimeMsg.the-variants as msg
 use Rattle.messages.specs.Messages.{Message, Answer, refused, given, refusal, settle, writeOf, readOf}
 use Rattle.messages.specs.MessageOf.{messageOf}
+use Rattle.messages.specs.Identity.{identityOf}
 use Rattle.messages.specs.Walk.{Stretch, low-run, stretches, is-frame, frames}
 
 -- a line of a table: the number of the frame in 01 (0 for one that is not there), and what it claims
@@ -38,6 +41,7 @@ pub data Line : Type 0 where
   refuses-read : ℕ → Kind → List ℕ → Refusal → Line
   lists : ℕ → Kind → List ℕ → List Stretch → Line
   settles : Message → Message → Line
+  identity : List ℕ → IdentityReading → Line
 
 -- the bytes of a frame
 abbrev pub frame-bytes : Answer (List ℕ) → List ℕ
@@ -53,6 +57,7 @@ Holds (reads n k bs m) = readOf k bs ≡ given m
 Holds (refuses-read n k bs r) = readOf k bs ≡ refused r
 Holds (lists n k s l) = frames k s ≡ l
 Holds (settles m n) = settle m ≡ n
+Holds (identity l a) = identityOf l ≡ a
 
 abbrev pub All : List Line → Type 0
 All [] = Unit {0}
@@ -203,3 +208,31 @@ pub settled-forms :
     ∷ [])
 unfolding writeOf refusal settle readOf
 settled-forms = (refl, (refl, (refl, (refl, (refl, (refl, (refl, (refl, (refl, (refl, (refl, (refl, (refl, (refl, (refl, (refl, (refl, tt)))))))))))))))))
+
+-- ---- identity reading: a line for each clause
+
+pub identity-readings :
+    All
+    ( -- no byte, one byte, another head, no maker byte
+    identity [] (identity-reading.Refused R.UnexpectedEnd)
+    ∷ identity (0x06 ∷ []) (identity-reading.Refused R.UnexpectedEnd)
+    ∷ identity (0x06 ∷ 0x01 ∷ []) (identity-reading.Refused R.NotImplemented)
+    ∷ identity (0x07 ∷ 0x02 ∷ 0x80 ∷ []) (identity-reading.Refused R.NotImplemented)
+    ∷ identity (0x06 ∷ 0x02 ∷ []) (identity-reading.Refused R.UnexpectedEnd)
+    -- a maker byte over 7F; a maker byte 00 with one byte after it; either of the two over 7F
+    ∷ identity (0x06 ∷ 0x02 ∷ 0x80 ∷ []) (identity-reading.Refused R.ByteOverflow)
+    ∷ identity (0x06 ∷ 0x02 ∷ 0x00 ∷ 0x80 ∷ []) (identity-reading.Refused R.UnexpectedEnd)
+    ∷ identity (0x06 ∷ 0x02 ∷ 0x00 ∷ 0x80 ∷ 0x00 ∷ []) (identity-reading.Refused R.ByteOverflow)
+    ∷ identity (0x06 ∷ 0x02 ∷ 0x00 ∷ 0x00 ∷ 0x80 ∷ []) (identity-reading.Refused R.ByteOverflow)
+    -- 7 bytes after the maker; a family or member group over 7F
+    ∷ identity (0x06 ∷ 0x02 ∷ 0x41 ∷ 0x80 ∷ 0x00 ∷ 0x00 ∷ 0x00 ∷ 0x00 ∷ 0x00 ∷ 0x00 ∷ []) (identity-reading.Refused R.UnexpectedEnd)
+    ∷ identity (0x06 ∷ 0x02 ∷ 0x00 ∷ 0x20 ∷ 0x33 ∷ 0x00 ∷ 0x00 ∷ 0x00 ∷ 0x00 ∷ 0x00 ∷ 0x00 ∷ 0x00 ∷ []) (identity-reading.Refused R.UnexpectedEnd)
+    ∷ identity (0x06 ∷ 0x02 ∷ 0x41 ∷ 0x80 ∷ 0x00 ∷ 0x00 ∷ 0x00 ∷ 0x00 ∷ 0x00 ∷ 0x00 ∷ 0x00 ∷ []) (identity-reading.Refused R.ByteOverflow)
+    ∷ identity (0x06 ∷ 0x02 ∷ 0x41 ∷ 0x00 ∷ 0x00 ∷ 0x00 ∷ 0x80 ∷ 0x00 ∷ 0x00 ∷ 0x00 ∷ 0x00 ∷ []) (identity-reading.Refused R.ByteOverflow)
+    -- maker 7D is taken; revision bytes are not tested; a trailing byte is ignored
+    ∷ identity (0x06 ∷ 0x02 ∷ 0x7D ∷ 0x2C ∷ 0x02 ∷ 0x02 ∷ 0x00 ∷ 0x01 ∷ 0x02 ∷ 0x03 ∷ 0xF7 ∷ 0xF7 ∷ []) (identity-reading.Reply (record { id = OneByte 0x7D; family = 300; «family_member» = 2; «software_revision» = record { first = 1; second = 2; third = 3; fourth = 0xF7 } }))
+    -- a maker of three bytes
+    ∷ identity (0x06 ∷ 0x02 ∷ 0x00 ∷ 0x20 ∷ 0x33 ∷ 0x2C ∷ 0x02 ∷ 0x02 ∷ 0x00 ∷ 0x01 ∷ 0x02 ∷ 0x03 ∷ 0x04 ∷ []) (identity-reading.Reply (record { id = Extended 0x20 0x33; family = 300; «family_member» = 2; «software_revision» = record { first = 1; second = 2; third = 3; fourth = 4 } }))
+    ∷ [])
+unfolding identityOf
+identity-readings = (refl, (refl, (refl, (refl, (refl, (refl, (refl, (refl, (refl, (refl, (refl, (refl, (refl, (refl, (refl, tt)))))))))))))))

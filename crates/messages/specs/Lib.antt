@@ -10,6 +10,7 @@ pub mod Layouts
 pub mod Messages
 pub mod Contents
 pub mod Walk
+pub mod Identity
 pub mod MessageOf
 pub mod Header
 pub mod Promises

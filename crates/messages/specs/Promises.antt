@@ -10,12 +10,15 @@ use lib.ListN.{length, getD, take, drop}
 use Rattle.util.specs.Groups.{Seven}
 use Rattle.util.specs.declared.refusal.Refusal.the-variants as R
 use Rattle.rates.specs.Rate.{split-of, numbers-of}
-use Rattle.messages.specs.Types.{Head, Kind, DeviceID, ExtendedSampleDumpMsg, ExtendedLoopType}
+use Rattle.messages.specs.declared.head.Head.the-variants as head
+use Rattle.messages.specs.declared.«system_exclusive».IdentityReading.the-variants.{Reply}
+use Rattle.messages.specs.Types.{Head, Kind, DeviceID, ExtendedSampleDumpMsg, ExtendedLoopType, IdentityReply}
 use Rattle.messages.specs.declared.«sample_dump».HeaderAnswer.the-variants as header
 use Rattle.messages.specs.declared.«system_exclusive».UniversalNonRealTimeMsg.the-variants.{ExtendedSampleDump}
-use Rattle.messages.specs.Layouts.{code, summed, reads}
+use Rattle.messages.specs.Layouts.{form, code, summed, reads}
 use Rattle.messages.specs.Messages.{Message, refused, given, refusal, settle, writeOf, Settled, SettledFor, readOf}
 use Rattle.messages.specs.Contents.{contents}
+use Rattle.messages.specs.Identity.{identityOf}
 use Rattle.messages.specs.MessageOf.{messageOf}
 use Rattle.messages.specs.Header.{header-of, header-number}
 use Rattle.messages.specs.Walk.{Listed, Rising, since, frames}
@@ -119,6 +122,12 @@ pub record NoFrame (k : Kind) (bs : List ℕ) : Type 0 where
 -- row 8, FIELD
 abbrev pub FieldExactly : Type 0
 FieldExactly = (k : Kind) (bs : List ℕ) → (readOf k bs ≡ refused R.Field) ↔ NoFrame k bs
+
+-- ---- identity reading
+
+-- a settled reply, from its head on, is read as that reply
+abbrev pub IdentityBack : Type 0
+IdentityBack = (r : IdentityReply) → form head.IdentityReply .settled r → identityOf (code head.IdentityReply ++ form head.IdentityReply .bytes r) ≡ Reply r
 
 -- ---- the walk: demand 3
 

@@ -3,6 +3,7 @@ use super::file_dump::FileDumpMsg;
 use super::file_reference::FileReferenceMsg;
 use super::general_midi::GeneralMidi;
 use super::head::Head;
+use util::refusal::Refusal;
 use super::sample_dump::ExtendedSampleDumpMsg;
 use super::sample_dump::SampleDumpMsg;
 use super::tuning::KeyBasedTuningDump;
@@ -12,8 +13,14 @@ use super::tuning::ScaleTuningDump1Byte;
 use super::tuning::ScaleTuningDump2Byte;
 use super::tuning::TuningBank;
 use super::tuning::TuningNoteChange;
+use util::bytes::is_seven;
+use util::groups::at;
+use util::groups::u14_at;
 ghost use mathlib.Core.Path.{_≡_};
+ghost use Prim.Native.Nat.{_≤_};
+ghost use Rattle.messages.specs.Structures.{reply};
 ghost use Rattle.messages.specs.MessageOf.{headOf, head-request, head-keys};
+ghost use Rattle.messages.specs.Identity.{first-of, numbers-from, rows-after-maker, rows-of-maker, reply-in, identityOf};
 
 pub enum DeviceID {
     Device(u8),
@@ -38,6 +45,12 @@ pub struct IdentityReply {
     pub family: u16,
     pub family_member: u16,
     pub software_revision: SoftwareRevision,
+}
+
+// What identity reading answers: the reply, or a refusal.
+pub enum IdentityReading {
+    Reply(IdentityReply),
+    Refused(Refusal),
 }
 
 pub enum UniversalNonRealTimeMsg {
@@ -85,7 +98,85 @@ fn keys_head(bank: TuningBank) -> Head
     }
 }
 
+// The reply of a maker, whose numbers stand from i on.
+fn reply_from(m: &[u8], id: ManufacturerID, i: usize) -> IdentityReply
+    requires { ⌜ i ≤ 5 ⌝ }
+    ensures { λ r. ⌜ r ≡ reply id (numbers-from (now (m .entry)) i) ⌝ }
+{
+    let software_revision = SoftwareRevision {
+        first: at(m, i + 4),
+        second: at(m, i + 5),
+        third: at(m, i + 6),
+        fourth: at(m, i + 7),
+    };
+    IdentityReply {
+        id,
+        family: u14_at(m, i),
+        family_member: u14_at(m, i + 2),
+        software_revision,
+    }
+}
+
+// What the bytes from i on, after the maker, are read as.
+fn read_after_maker(m: &[u8], id: ManufacturerID, i: usize) -> IdentityReading
+    requires { ⌜ i ≤ 5 ⌝ }
+    ensures { λ r. ⌜ r ≡ first-of (rows-after-maker (now (m .entry)) i) (reply id (numbers-from (now (m .entry)) i)) ⌝ }
+{
+    if m.len() < i + 8 {
+        return IdentityReading::Refused(Refusal::UnexpectedEnd);
+    }
+    let end = i + 4;
+    if is_seven(&m[i..end]) {
+        return IdentityReading::Reply(reply_from(m, id, i));
+    }
+    IdentityReading::Refused(Refusal::ByteOverflow)
+}
+
+// What the bytes after the head 06 02 are read as.
+fn read_maker(m: &[u8]) -> IdentityReading
+    ensures { λ r. ⌜ r ≡ first-of (rows-of-maker (now (m .entry))) (reply-in (now (m .entry))) ⌝ }
+{
+    if m.len() < 3 {
+        return IdentityReading::Refused(Refusal::UnexpectedEnd);
+    }
+    let b = m[2];
+    if 127 < b {
+        return IdentityReading::Refused(Refusal::ByteOverflow);
+    }
+    if b != 0 {
+        return read_after_maker(m, ManufacturerID::OneByte(b), 3);
+    }
+    if m.len() < 5 {
+        return IdentityReading::Refused(Refusal::UnexpectedEnd);
+    }
+    let first = m[3];
+    if 127 < first {
+        return IdentityReading::Refused(Refusal::ByteOverflow);
+    }
+    let second = m[4];
+    if 127 < second {
+        return IdentityReading::Refused(Refusal::ByteOverflow);
+    }
+    read_after_maker(m, ManufacturerID::Extended(first, second), 5)
+}
+
 impl UniversalNonRealTimeMsg {
+    // The identity reply that bytes from the head on are.
+    pub fn from_midi(m: &[u8]) -> IdentityReading
+        ensures { λ r. ⌜ r ≡ identityOf (now (m .entry)) ⌝ }
+    {
+        if m.len() < 2 {
+            return IdentityReading::Refused(Refusal::UnexpectedEnd);
+        }
+        if m[0] != 6 {
+            return IdentityReading::Refused(Refusal::NotImplemented);
+        }
+        if m[1] != 2 {
+            return IdentityReading::Refused(Refusal::NotImplemented);
+        }
+        read_maker(m)
+    }
+
     // The head of the message.
     pub fn head(self) -> Head
         ensures { λ r. ⌜ r ≡ headOf self ⌝ }

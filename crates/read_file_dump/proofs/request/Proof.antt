@@ -1,0 +1,52 @@
+-- `read_file_dump::request` meets its contract.
+-- Assumes nothing.
+use mathlib.Core.Path.{_∙_}
+use native.Mathlib.Omega.{arith}
+use denote.Ref.{now}
+use borrow.Author.Needs.{needs}
+use Rattle.messages.specs.declared.head.Head.the-variants as head
+use Rattle.reading.proofs.Laws.Answers.{reads-none}
+use Rattle.read_file_dump.proofs.Laws.Fields.{request-not, request-found}
+use Rattle.read_file_dump.proofs.request.Statement.{statement}
+use Rattle.read_file_dump.proofs.request.Tie as tie
+
+returns : tie.Need-returns
+returns c = let s = c .before .before in let x = c .if1 .taken in reads-none head.FileDumpRequest _ (request-not (now (s .args .f)) (s .pre) λ p q. omega arith)
+
+sub-n : tie.Need-sub-n
+sub-n c = search needs
+
+returns-2 : tie.Need-returns-2
+returns-2 c = let s = c .before .before .before in let x = c .if2 .taken in reads-none head.FileDumpRequest _ (request-not (now (s .args .f)) (s .pre) λ p q. omega arith)
+
+u7-at-requires : tie.Need-u7-at-requires
+u7-at-requires c κs = search needs
+
+device-of-requires : tie.Need-device-of-requires
+device-of-requires c κs = search needs
+
+type-at-requires : tie.Need-type-at-requires
+type-at-requires c κs = search needs
+
+request-of-requires : tie.Need-request-of-requires
+request-of-requires c κs = search needs
+
+returns-3 : tie.Need-returns-3
+returns-3 c =
+    let e = c .before .before .before .before in
+    let s = e .before .before .before in
+    request-found (now (s .args .f)) (s .pre) (e .before .if1 .left) (e .if2 .left) _
+    (c .request-of .ensures ∙ rw (c .before .before .device-of .ensures, c .before .before .before .u7-at .ensures, c .before .type-at .ensures))
+
+pub request-spec : {M : Type 1} → statement M
+request-spec =
+    tie.close
+    (tie.spec
+    returns
+    sub-n
+    returns-2
+    u7-at-requires
+    device-of-requires
+    type-at-requires
+    request-of-requires
+    returns-3)

@@ -1,0 +1,48 @@
+-- `read_file_reference::put_maps` meets its contract: the maps of a part of the fields.
+-- Assumes nothing.
+use borrow.Author.Needs.{needs}
+use mathlib.Core.Path.{sym, ap, _∙_}
+use mathlib.Core.List.{List}
+use Prim.Native.Nat.{ℕ, _+_}
+use native.Mathlib.Nat.{add-zero}
+use denote.Ref.{now}
+use Rattle.util.specs.Splice.{front}
+use Rattle.util.proofs.Laws.Splice.{tail-drop}
+use Rattle.reading.specs.Places.{map-entries}
+use Rattle.read_file_reference.proofs.Laws.Maps.{entries-part}
+use Rattle.read_file_reference.proofs.put_maps.Statement.{statement}
+use Rattle.read_file_reference.proofs.put_maps.Tie as tie
+
+sub-put-first : tie.Need-sub-put-first
+sub-put-first c = search needs
+
+part-put-first-start : tie.Need-part-put-first-start
+part-put-first-start c = search needs
+
+part-put-first-end : tie.Need-part-put-first-end
+part-put-first-end c = search needs
+
+put-first-requires : tie.Need-put-first-requires
+put-first-requires c κs = search needs
+
+same-length : tie.Need-same-length
+same-length c = search needs
+
+returns : tie.Need-returns
+returns c =
+    let a = c .before .before .before .before .before .before .before .args in
+    let f = now (a .f) in
+    c .before .before .put-first .ensures
+    ∙ ap (λ (l : List ℕ). front (map-entries l 0 (a .n)) (now (a .out))) (tail-drop f (a .at))
+    ∙ ap (λ (l : List ℕ). front l (now (a .out))) (entries-part f (a .at) (a .n) 0 ∙ ap (λ (v : ℕ). map-entries f v (a .n)) (add-zero (a .at)))
+
+pub put-maps-spec : {M : Type 1} → statement M
+put-maps-spec =
+    tie.close
+    (tie.spec
+    sub-put-first
+    part-put-first-start
+    part-put-first-end
+    put-first-requires
+    same-length
+    returns)

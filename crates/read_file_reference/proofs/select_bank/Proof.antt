@@ -1,0 +1,28 @@
+-- `read_file_reference::select_bank` meets its contract.
+-- Assumes nothing.
+use borrow.Author.Needs.{needs}
+use denote.Ref.{now}
+use Rattle.messages.specs.declared.head.Head.the-variants as head
+use Rattle.messages.specs.Maps.{bank-length, bank-select, bank-short}
+use Rattle.reading.proofs.Laws.Answers.{reads-none}
+use Rattle.read_file_reference.proofs.Laws.Selects.{select-short}
+use Rattle.read_file_reference.proofs.select_bank.Statement.{statement}
+use Rattle.read_file_reference.proofs.select_bank.Tie as tie
+
+returns : tie.Need-returns
+returns c =
+    let s = c .before .before in
+    let f = now (s .args .f) in
+    reads-none head.SelectSoundFile _ (select-short bank-length bank-select bank-short f (s .pre) (c .if1 .taken))
+
+bank-map-at-requires : tie.Need-bank-map-at-requires
+bank-map-at-requires c κs = search needs
+
+select-of-requires : tie.Need-select-of-requires
+select-of-requires c κs = search needs
+
+returns-2 : tie.Need-returns-2
+returns-2 c = c .select-of .ensures .0 (c .before .bank-map-at .ensures)
+
+pub select-bank-spec : {M : Type 1} → statement M
+select-bank-spec = tie.close (tie.spec returns bank-map-at-requires select-of-requires returns-2)

@@ -1,0 +1,28 @@
+-- `read_file_reference::select_wav` meets its contract.
+-- Assumes nothing.
+use borrow.Author.Needs.{needs}
+use denote.Ref.{now}
+use Rattle.messages.specs.declared.head.Head.the-variants as head
+use Rattle.messages.specs.Maps.{wav-length, wav-select, wav-short}
+use Rattle.reading.proofs.Laws.Answers.{reads-none}
+use Rattle.read_file_reference.proofs.Laws.Selects.{select-short}
+use Rattle.read_file_reference.proofs.select_wav.Statement.{statement}
+use Rattle.read_file_reference.proofs.select_wav.Tie as tie
+
+returns : tie.Need-returns
+returns c =
+    let s = c .before .before in
+    let f = now (s .args .f) in
+    reads-none head.SelectWAV _ (select-short wav-length wav-select wav-short f (s .pre) (c .if1 .taken))
+
+wav-map-at-requires : tie.Need-wav-map-at-requires
+wav-map-at-requires c κs = search needs
+
+select-of-requires : tie.Need-select-of-requires
+select-of-requires c κs = search needs
+
+returns-2 : tie.Need-returns-2
+returns-2 c = c .select-of .ensures .1 (c .before .wav-map-at .ensures)
+
+pub select-wav-spec : {M : Type 1} → statement M
+select-wav-spec = tie.close (tie.spec returns wav-map-at-requires select-of-requires returns-2)

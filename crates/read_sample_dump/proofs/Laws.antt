@@ -1,0 +1,4 @@
+pub mod Bytes
+pub mod Loops
+pub mod SampleDump
+pub mod ExtendedSampleDump

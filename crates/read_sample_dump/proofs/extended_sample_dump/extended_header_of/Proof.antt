@@ -1,0 +1,57 @@
+-- `read_sample_dump::extended_sample_dump::extended_header_of` meets its contract: each number is read by place.
+use borrow.Author.Needs.{needs}
+use mathlib.Core.Path.{sym, ap}
+use native.Mathlib.Omega.{arith}
+use denote.Ref.{now}
+use Rattle.messages.specs.declared.head.Head.the-variants as head
+use Rattle.messages.specs.Messages.{plain-answer}
+use Rattle.read_sample_dump.proofs.Laws.ExtendedSampleDump.{header-reads}
+use Rattle.read_sample_dump.proofs.extended_sample_dump.extended_header_of.Statement.{statement}
+use Rattle.read_sample_dump.proofs.extended_sample_dump.extended_header_of.Tie as tie
+
+u14-at-requires : tie.Need-u14-at-requires
+u14-at-requires c κs = search needs
+
+at-requires : tie.Need-at-requires
+at-requires c κs = search needs
+
+u28-at-requires : tie.Need-u28-at-requires
+u28-at-requires c κs = search needs
+
+u28-at-requires-2 : tie.Need-u28-at-requires-2
+u28-at-requires-2 c κs = search needs
+
+u35-at-requires : tie.Need-u35-at-requires
+u35-at-requires c κs = search needs
+
+u35-at-requires-2 : tie.Need-u35-at-requires-2
+u35-at-requires-2 c κs = search needs
+
+u35-at-requires-3 : tie.Need-u35-at-requires-3
+u35-at-requires-3 c κs = search needs
+
+u7-at-requires : tie.Need-u7-at-requires
+u7-at-requires c κs = search needs
+
+returns : tie.Need-returns
+returns c =
+    let s = c .before .before .before .before .before .before .before .before .before in
+    let p = s .pre in
+    record {
+      says = λ d. rw (c .u7-at .ensures, c .before .u35-at3 .ensures, c .before .before .u35-at2 .ensures, c .before .before .before .u35-at .ensures, c .before .before .before .before .u28-at2 .ensures, c .before .before .before .before .before .u28-at .ensures, c .before .before .before .before .before .before .at .ensures, c .before .before .before .before .before .before .before .u14-at .ensures) (ap (plain-answer d head.ExtendedHeader) (sym (header-reads (now (s .args .f)) (p .0) _ (p .1) (p .2) (p .3) (p .4))));
+      part = omega (arith, p .1);
+    }
+
+pub extended-header-of-spec : {M : Type 1} → statement M
+extended-header-of-spec =
+    tie.close
+    (tie.spec
+    u14-at-requires
+    at-requires
+    u28-at-requires
+    u28-at-requires-2
+    u35-at-requires
+    u35-at-requires-2
+    u35-at-requires-3
+    u7-at-requires
+    returns)

@@ -1,0 +1,49 @@
+-- `read_sample_dump::sample_dump::header_of` meets its contract: each number is read by place.
+use borrow.Author.Needs.{needs}
+use mathlib.Core.Path.{sym, ap}
+use native.Mathlib.Omega.{arith}
+use denote.Ref.{now}
+use Rattle.messages.specs.declared.head.Head.the-variants as head
+use Rattle.messages.specs.Messages.{plain-answer}
+use Rattle.read_sample_dump.proofs.Laws.SampleDump.{header-reads}
+use Rattle.read_sample_dump.proofs.sample_dump.header_of.Statement.{statement}
+use Rattle.read_sample_dump.proofs.sample_dump.header_of.Tie as tie
+
+u14-at-requires : tie.Need-u14-at-requires
+u14-at-requires c κs = search needs
+
+at-requires : tie.Need-at-requires
+at-requires c κs = search needs
+
+u21-at-requires : tie.Need-u21-at-requires
+u21-at-requires c κs = search needs
+
+u21-at-requires-2 : tie.Need-u21-at-requires-2
+u21-at-requires-2 c κs = search needs
+
+u21-at-requires-3 : tie.Need-u21-at-requires-3
+u21-at-requires-3 c κs = search needs
+
+u21-at-requires-4 : tie.Need-u21-at-requires-4
+u21-at-requires-4 c κs = search needs
+
+returns : tie.Need-returns
+returns c =
+    let s = c .before .before .before .before .before .before .before in
+    let p = s .pre in
+    record {
+      says = λ d. rw (c .u21-at4 .ensures, c .before .u21-at3 .ensures, c .before .before .u21-at2 .ensures, c .before .before .before .u21-at .ensures, c .before .before .before .before .at .ensures, c .before .before .before .before .before .u14-at .ensures) (ap (plain-answer d head.SampleDumpHeader) (sym (header-reads (now (s .args .f)) (p .0) _ (p .1) (p .2) (p .3) (p .4))));
+      part = omega (arith, p .1);
+    }
+
+pub header-of-spec : {M : Type 1} → statement M
+header-of-spec =
+    tie.close
+    (tie.spec
+    u14-at-requires
+    at-requires
+    u21-at-requires
+    u21-at-requires-2
+    u21-at-requires-3
+    u21-at-requires-4
+    returns)

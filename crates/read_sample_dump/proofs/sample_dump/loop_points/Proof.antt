@@ -1,0 +1,52 @@
+-- `read_sample_dump::sample_dump::loop_points` meets its contract: the length is that of the layout, and the type is one of its table.
+use borrow.Author.Needs.{needs}
+use denote.Ref.{now}
+use Rattle.messages.specs.declared.head.Head.the-variants as head
+use Rattle.reading.proofs.Laws.Answers.{reads-none}
+use Rattle.read_sample_dump.proofs.Laws.SampleDump.{loop-points-not}
+use Rattle.read_sample_dump.proofs.sample_dump.loop_points.Statement.{statement}
+use Rattle.read_sample_dump.proofs.sample_dump.loop_points.Tie as tie
+
+returns : tie.Need-returns
+returns c = let s = c .before .before in reads-none head.LoopPointTransmission _ (loop-points-not (now (s .args .f)) (s .pre) (λ n t e. c .if1 .taken n))
+
+at-requires : tie.Need-at-requires
+at-requires c κs = search needs
+
+loop-type-requires : tie.Need-loop-type-requires
+loop-type-requires c κs = search needs
+
+enum-known-named : tie.Need-enum-known-named
+enum-known-named c = search needs
+
+loop-points-of-requires : tie.Need-loop-points-of-requires
+loop-points-of-requires c κs =
+    let a = c .before .before .before in
+    let s = a .before .before .before .before in
+    (s .pre, a .before .before .if1 .left, rw (c .before .named .given .1, a .before .at .ensures) at (a .loop-type .ensures))
+
+enum-told : tie.Need-enum-told
+enum-told c = search needs
+
+returns-2 : tie.Need-returns-2
+returns-2 c = search needs
+
+returns-3 : tie.Need-returns-3
+returns-3 c =
+    let a = c .before .before in
+    let s = a .before .before .before .before in
+    let k = rw (c .enum-told .given .1, a .before .at .ensures) at (a .loop-type .ensures) in
+    reads-none head.LoopPointTransmission _ (loop-points-not (now (s .args .f)) (s .pre) (λ n t e. k t e))
+
+pub loop-points-spec : {M : Type 1} → statement M
+loop-points-spec =
+    tie.close
+    (tie.spec
+    returns
+    at-requires
+    loop-type-requires
+    enum-known-named
+    loop-points-of-requires
+    enum-told
+    returns-2
+    returns-3)

@@ -1,0 +1,29 @@
+-- `read_sample_dump::sample_dump::packet` meets its contract: the length is that of the layout, and the samples are the part from 1 on.
+use borrow.Author.Needs.{needs}
+use mathlib.Core.Path.{sym, ap}
+use native.Mathlib.Omega.{arith}
+use denote.Ref.{now}
+use Rattle.messages.specs.declared.head.Head.the-variants as head
+use Rattle.messages.specs.Messages.{plain-answer}
+use Rattle.reading.proofs.Laws.Answers.{reads-none}
+use Rattle.read_sample_dump.proofs.Laws.SampleDump.{packet-not, packet-reads}
+use Rattle.read_sample_dump.proofs.sample_dump.packet.Statement.{statement}
+use Rattle.read_sample_dump.proofs.sample_dump.packet.Tie as tie
+
+returns : tie.Need-returns
+returns c = let s = c .before .before in reads-none head.SampleDumpPacket _ (packet-not (now (s .args .f)) (s .pre) (c .if1 .taken))
+
+u7-at-requires : tie.Need-u7-at-requires
+u7-at-requires c κs = search needs
+
+returns-2 : tie.Need-returns-2
+returns-2 c =
+    let s = c .before .before .before in
+    let n = c .before .if1 .left in
+    record {
+      says = λ d. rw (c .u7-at .ensures) (ap (plain-answer d head.SampleDumpPacket) (sym (packet-reads (now (s .args .f)) (s .pre) n)));
+      part = omega (arith, n);
+    }
+
+pub packet-spec : {M : Type 1} → statement M
+packet-spec = tie.close (tie.spec returns u7-at-requires returns-2)

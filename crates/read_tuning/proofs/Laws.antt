@@ -1,0 +1,4 @@
+pub mod Entries
+pub mod Scales
+pub mod Heads
+pub mod ChannelScales

@@ -1,0 +1,33 @@
+-- `read_tuning::channels_at` meets its contract.
+-- Assumes nothing.
+use denote.Ref.{now}
+use Rattle.reading.proofs.Laws.Numbers.{value-get, seven-get}
+use borrow.Author.Needs.{needs}
+use Rattle.read_tuning.proofs.channels_at.Statement.{statement}
+use Rattle.read_tuning.proofs.channels_at.Tie as tie
+
+u7-at-requires : tie.Need-u7-at-requires
+u7-at-requires c κs = search needs
+
+u7-at-requires-2 : tie.Need-u7-at-requires-2
+u7-at-requires-2 c κs = search needs
+
+u7-at-requires-3 : tie.Need-u7-at-requires-3
+u7-at-requires-3 c κs = search needs
+
+channels-of-requires : tie.Need-channels-of-requires
+channels-of-requires c κs =
+    let s = c .before .before .before .before in
+    let f = now (s .args .f) in (
+      rw (c .before .before .u7-at .ensures, value-get f 0) (seven-get f 0 (s .pre)),
+      rw (c .before .u7-at2 .ensures, value-get f 1) (seven-get f 1 (s .pre)),
+      rw (c .u7-at3 .ensures, value-get f 2) (seven-get f 2 (s .pre)),
+    )
+
+returns : tie.Need-returns
+returns c = let b = c .before in rw (c .channels-of .ensures, b .u7-at3 .ensures, b .before .u7-at2 .ensures, b .before .before .u7-at .ensures)
+
+pub channels-at-spec : {M : Type 1} → statement M
+channels-at-spec =
+    tie.close
+    (tie.spec u7-at-requires u7-at-requires-2 u7-at-requires-3 channels-of-requires returns)

@@ -1,0 +1,65 @@
+-- Reading with lent space (01, "Reading and the walk"): what an answer says, and what the lent space holds after it.
+use mathlib.Core.Path.{_≡_}
+use mathlib.Core.Bool.{Bool, true, false}
+use mathlib.Core.List.{List}
+use Prim.Native.Nat.{ℕ, _+_}
+use lib.ListN.{length, take, drop}
+use Rattle.util.specs.Splice.{front}
+use Rattle.messages.specs.declared.«system_exclusive».UniversalNonRealTimeMsg.{UniversalNonRealTimeMsg}
+use Rattle.messages.specs.declared.«system_exclusive».UniversalNonRealTimeMsg.the-variants as msg
+use Rattle.messages.specs.declared.«file_dump».FileDumpMsg.{FileDumpMsg}
+use Rattle.messages.specs.declared.«file_dump».FileDumpMsg.the-variants as file
+use Rattle.messages.specs.Messages.{Message, Answer, refused, given, file-data, entries, holding}
+use Rattle.messages.specs.MessageOf.{messageOf}
+use Rattle.reading.specs.Found.{text-in}
+use Rattle.reader.specs.declared.lent.Reading.{Reading}
+use Rattle.reader.specs.declared.lent.Reading.the-variants as reading
+
+-- "file data [..] go to lent space, one place each", from its start; the rest keeps its values, and all of it under a refusal
+abbrev pub data-after : Answer Message → List ℕ → List ℕ
+data-after (refused r) l = l
+data-after (given m) l = front (file-data m) l
+
+-- the same of "entries (tunings, note changes, bank map records)"
+abbrev pub entries-after : Answer Message → List ℕ → List ℕ
+entries-after (refused r) l = l
+entries-after (given m) l = front (entries m) l
+
+-- the message or the refusal that an answer says, with the frame and what lent space holds
+abbrev pub said : Reading → List ℕ → List ℕ → List ℕ → Answer Message
+said (reading.Frame d m from len places) frame dat es =
+    given (messageOf d m (text-in m (take len (drop from frame)) (take places dat)) (take places es))
+said (reading.Refused r) frame dat es = refused r
+
+-- reading a frame whose answer without lent space is a: the answer with lent space, and what lent space holds after it
+pub record ReadMet (r : Reading) (a : Answer Message) (frame dat dat′ es es′ : List ℕ) : Type 0 where
+  pub says : said r frame dat′ es′ ≡ holding (length dat) (length es) a
+  pub data-is : dat′ ≡ data-after (holding (length dat) (length es) a) dat
+  pub entries-are : es′ ≡ entries-after (holding (length dat) (length es) a) es
+
+-- whether the list of a message is file data
+abbrev pub has-data-file : FileDumpMsg → Bool
+has-data-file (file.Header d t l) = false
+has-data-file (file.Packet c) = true
+has-data-file (file.Request d t) = false
+
+abbrev pub has-data : UniversalNonRealTimeMsg → Bool
+has-data (msg.SampleDump m) = false
+has-data (msg.ExtendedSampleDump m) = false
+has-data msg.IdentityRequest = false
+has-data (msg.IdentityReply r) = false
+has-data (msg.FileDump m) = has-data-file m
+has-data (msg.TuningBulkDumpRequest b p) = false
+has-data (msg.KeyBasedTuningDump k) = false
+has-data (msg.ScaleTuningDump1Byte s) = false
+has-data (msg.ScaleTuningDump2Byte s) = false
+has-data (msg.TuningNoteChange c) = false
+has-data (msg.ScaleTuning1Byte s) = false
+has-data (msg.ScaleTuning2Byte s) = false
+has-data (msg.GeneralMidi g) = false
+has-data (msg.FileReference m) = false
+has-data msg.EOF = false
+has-data msg.Wait = false
+has-data msg.Cancel = false
+has-data (msg.NAK n) = false
+has-data (msg.ACK n) = false

@@ -1,0 +1,105 @@
+// Reads a frame: what it is, without writing; then its file data and entries into lent space.
+pub mod body;
+pub mod fields;
+pub mod lent;
+
+use body::Body;
+use lent::Reading;
+use messages::file_reference::Kind;
+use util::refusal::Refusal;
+ghost use mathlib.Core.Path.{_≡_};
+ghost use mathlib.Core.Option.{some};
+ghost use lib.ListN.{take, drop};
+ghost use Rattle.messages.specs.Messages.{readOf, inside};
+ghost use Rattle.messages.specs.Walk.{is-frame};
+ghost use Rattle.reader.specs.Body.{Tells, inner};
+ghost use Rattle.reader.specs.Reading.{ReadMet};
+
+// What a frame of the right shape is, for a kind of sound file.
+fn examine_shaped(frame: &[u8], kind: Kind) -> Body
+    requires { ⌜ inside (now frame) ≡ some (inner (now frame)) ⌝ }
+    ensures { λ r. ⌜ Tells r (inner (now (frame .entry))) (readOf kind (now (frame .entry))) ⌝ }
+{
+    let e = frame.len() - 1;
+    body::body_of(&frame[1..e], kind)
+}
+
+// What a frame is, for a kind of sound file; nothing is written.
+pub fn examine(frame: &[u8], kind: Kind) -> Body
+    ensures { λ r. ⌜ Tells r (inner (now (frame .entry))) (readOf kind (now (frame .entry))) ⌝ }
+{
+    if frame.len() < 6 {
+        return Body::Refused(Refusal::Shape);
+    }
+    let e = frame.len() - 1;
+    if frame[0] != 0xF0 {
+        return Body::Refused(Refusal::Shape);
+    }
+    if frame[e] != 0xF7 {
+        return Body::Refused(Refusal::Shape);
+    }
+    if util::bytes::is_seven(&frame[1..e]) {
+        examine_shaped(frame, kind)
+    } else {
+        Body::Refused(Refusal::Shape)
+    }
+}
+
+// Whether a stretch of the right shape is a frame for a kind of sound file.
+pub fn is_frame_shaped(stretch: &[u8], kind: Kind) -> bool
+    requires { ⌜ inside (now stretch) ≡ some (inner (now stretch)) ⌝ }
+    ensures { λ r. ⌜ r ≡ is-frame kind (now (stretch .entry)) ⌝ }
+{
+    match examine_shaped(stretch, kind) {
+        Body::Is { .. } => true,
+        Body::Refused(_) => false,
+    }
+}
+
+// Whether a stretch is a frame for a kind of sound file.
+pub fn is_frame(stretch: &[u8], kind: Kind) -> bool
+    ensures { λ r. ⌜ r ≡ is-frame kind (now (stretch .entry)) ⌝ }
+{
+    match examine(stretch, kind) {
+        Body::Is { .. } => true,
+        Body::Refused(_) => false,
+    }
+}
+
+// Reads a frame for a kind of sound file, its file data and entries into lent places.
+pub fn read(frame: &[u8], kind: Kind, data: &mut [u8], entries: &mut [u64]) -> Reading
+    ensures { λ r. ⌜ ReadMet r (readOf kind (now (frame .entry))) (now (frame .entry)) (now («data» .entry)) (now («data» .exit)) (now (entries .entry)) (now (entries .exit)) ⌝ }
+{
+    match examine(frame, kind) {
+        Body::Is {
+            device,
+            m,
+            from,
+            len,
+            at,
+            count,
+            start,
+            end,
+        } => {
+            let a = 1 + start;
+            let e = 1 + end;
+            lent::fill(&frame[a..e], device, m, a + from, len, at, count, data, entries)
+        }
+        Body::Refused(n) => Reading::Refused(n),
+    }
+}
+
+// The part of a frame that an answer names: len bytes from a place on, or as many as there are.
+pub fn part(frame: &[u8], from: usize, len: usize) -> &[u8]
+    ensures { λ r. ⌜ now r ≡ take len (drop from (now (frame .entry))) ⌝ }
+{
+    let n = frame.len();
+    if n < from {
+        return &frame[n..n];
+    }
+    if n - from < len {
+        return &frame[from..n];
+    }
+    let e = from + len;
+    &frame[from..e]
+}
