@@ -4,8 +4,8 @@ use messages::file_reference::SelectMap;
 use messages::file_reference::SoundFileMap;
 use messages::file_reference::WAVMap;
 use util::groups::at;
-use util::groups::u14_at;
 use util::groups::u7_at;
+use util::groups::u14_at;
 use util::signed::u14_to_i;
 ghost use mathlib.Core.Path.{_≡_};
 ghost use Prim.Native.Nat.{_+_, _*_, _≤_};
@@ -31,10 +31,7 @@ pub enum Picked {
 
 // A bank offset and its drum flag, or nothing.
 pub enum OffsetFound {
-    Is {
-        bank_offset: u16,
-        src_drum: bool,
-    },
+    Is { bank_offset: u16, src_drum: bool },
     Nothing,
 }
 

@@ -2,13 +2,13 @@
 use crate::fields;
 use messages::file_reference::Kind;
 use messages::head::Head;
-use util::refusal::Refusal;
 use messages::system_exclusive::DeviceID;
 use messages::system_exclusive::UniversalNonRealTimeMsg;
 use reading::Found;
 use reading::heads;
 use reading::heads::HeadFound;
 use util::groups::at;
+use util::refusal::Refusal;
 ghost use mathlib.Core.Path.{_≡_};
 ghost use Prim.Native.Nat.{_-_, _≤_};
 ghost use lib.ListN.{length, take, drop};

@@ -2,16 +2,15 @@
 use messages::file_dump::FileDumpMsg;
 use messages::file_reference::FileReferenceMsg;
 use messages::file_reference::SelectMap;
-use util::refusal::Refusal;
 use messages::system_exclusive::DeviceID;
 use messages::system_exclusive::UniversalNonRealTimeMsg;
+use util::refusal::Refusal;
 ghost use mathlib.Core.Path.{_≡_};
 ghost use mathlib.Core.Bool.{true, false};
 ghost use Prim.Native.Nat.{_+_, _≤_};
 ghost use lib.ListN.{length};
 ghost use Rattle.util.specs.Groups.{Seven};
 ghost use Rattle.util.specs.Splice.{front};
-ghost use Rattle.reading.specs.Places.{tuning-entries, change-entries, map-entries, data-at};
 ghost use Rattle.reading.specs.Found.{data-of, entries-of, entries-select, entries-reference};
 ghost use Rattle.reader.specs.Reading.{has-data, has-data-file};
 ghost use Rattle.reader.specs.Filled.{Filled};
@@ -67,37 +66,13 @@ fn has_data(m: UniversalNonRealTimeMsg) -> bool
     }
 }
 
-fn put_data(out: &mut [u8], f: &[u8], at: usize)
-    requires { ⌜ Seven (now f) × (at ≤ length (now f)) × (length (data-at (now f) at) ≤ length (now out)) ⌝ }
-    ensures { λ _. ⌜ now (out .exit) ≡ front (data-at (now (f .entry)) at) (now (out .entry)) ⌝ }
-{
-}
-
-fn put_tunings(out: &mut [u64], f: &[u8], at: usize, n: usize)
-    requires { ⌜ (n ≤ length (now out)) × (n ≤ 128) × (at ≤ length (now f)) ⌝ }
-    ensures { λ _. ⌜ now (out .exit) ≡ front (tuning-entries (now (f .entry)) at n) (now (out .entry)) ⌝ }
-{
-}
-
-fn put_changes(out: &mut [u64], f: &[u8], at: usize, n: usize)
-    requires { ⌜ (n ≤ length (now out)) × (n ≤ 128) × (at ≤ length (now f)) ⌝ }
-    ensures { λ _. ⌜ now (out .exit) ≡ front (change-entries (now (f .entry)) at n) (now (out .entry)) ⌝ }
-{
-}
-
-fn put_maps(out: &mut [u64], f: &[u8], at: usize, n: usize)
-    requires { ⌜ (n ≤ length (now out)) × (n ≤ 128) × (at ≤ length (now f)) ⌝ }
-    ensures { λ _. ⌜ now (out .exit) ≡ front (map-entries (now (f .entry)) at n) (now (out .entry)) ⌝ }
-{
-}
-
 // The entries of a map from a place on.
 fn put_select(m: SelectMap, f: &[u8], at: usize, n: usize, out: &mut [u64])
     requires { ⌜ (n ≤ length (now out)) × (n ≤ 128) × (at ≤ length (now f)) ⌝ }
     ensures { λ _. ⌜ now (out .exit) ≡ front (entries-select m (now (f .entry)) at n) (now (out .entry)) ⌝ }
 {
     match m {
-        SelectMap::SoundFile => put_maps(out, f, at, n),
+        SelectMap::SoundFile => read_file_reference::put_maps(out, f, at, n),
         SelectMap::WAV(_) => {}
         SelectMap::SoundFileBankOffset { .. } => {}
         SelectMap::WAVBankOffset { .. } => {}
@@ -133,10 +108,10 @@ fn put_entries(m: UniversalNonRealTimeMsg, f: &[u8], at: usize, n: usize, out: &
         UniversalNonRealTimeMsg::IdentityReply(_) => {}
         UniversalNonRealTimeMsg::FileDump(_) => {}
         UniversalNonRealTimeMsg::TuningBulkDumpRequest { .. } => {}
-        UniversalNonRealTimeMsg::KeyBasedTuningDump(_) => put_tunings(out, f, at, n),
+        UniversalNonRealTimeMsg::KeyBasedTuningDump(_) => read_tuning::put_tunings(out, f, at, n),
         UniversalNonRealTimeMsg::ScaleTuningDump1Byte(_) => {}
         UniversalNonRealTimeMsg::ScaleTuningDump2Byte(_) => {}
-        UniversalNonRealTimeMsg::TuningNoteChange(_) => put_changes(out, f, at, n),
+        UniversalNonRealTimeMsg::TuningNoteChange(_) => read_tuning::put_changes(out, f, at, n),
         UniversalNonRealTimeMsg::ScaleTuning1Byte(_) => {}
         UniversalNonRealTimeMsg::ScaleTuning2Byte(_) => {}
         UniversalNonRealTimeMsg::GeneralMidi(_) => {}
@@ -168,7 +143,7 @@ pub fn fill(
         if data.len() < count {
             return Reading::Refused(Refusal::Hold);
         }
-        put_data(data, f, at);
+        read_file_dump::put_data(data, f, at);
     } else {
         if entries.len() < count {
             return Reading::Refused(Refusal::Hold);

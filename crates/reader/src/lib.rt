@@ -83,7 +83,17 @@ pub fn read(frame: &[u8], kind: Kind, data: &mut [u8], entries: &mut [u64]) -> R
         } => {
             let a = 1 + start;
             let e = 1 + end;
-            lent::fill(&frame[a..e], device, m, a + from, len, at, count, data, entries)
+            lent::fill(
+                &frame[a..e],
+                device,
+                m,
+                a + from,
+                len,
+                at,
+                count,
+                data,
+                entries,
+            )
         }
         Body::Refused(n) => Reading::Refused(n),
     }

@@ -77,8 +77,12 @@ module _ (f : List ℕ) (s : Seven f) where
           pub open-more : (length f ≡ 8 + first-zero (drop 8 f) + 1 → ⊥) → form head.FileReferenceOpen .read f ≡ none
           open-more k =
               rw (
-                unsigned-at f s 2 0 (omega arith), unsigned-at f s 2 2 (omega arith), e, url-at f s 8 h 260 g,
-                drop-cons f (8 + first-zero (drop 8 f) + 1) 0 (omega arith))
+                unsigned-at f s 2 0 (omega arith),
+                unsigned-at f s 2 2 (omega arith),
+                e,
+                url-at f s 8 h 260 g,
+                drop-cons f (8 + first-zero (drop 8 f) + 1) 0 (omega arith),
+              )
 
           url-length : length (take (first-zero (drop 8 f)) (drop 8 f)) ≡ first-zero (drop 8 f)
           url-length = length-take-le (first-zero (drop 8 f)) (drop 8 f) (zero-most (drop 8 f))
@@ -87,18 +91,26 @@ module _ (f : List ℕ) (s : Seven f) where
             pub open-said : (value-at 2 f 2 ≡ 5 + first-zero (drop 8 f) → ⊥) → form head.FileReferenceOpen .read f ≡ none
             open-said k =
                 rw (
-                  unsigned-at f s 2 0 (omega arith), unsigned-at f s 2 2 (omega arith), e, url-at f s 8 h 260 g,
+                  unsigned-at f s 2 0 (omega arith),
+                  unsigned-at f s 2 2 (omega arith),
+                  e,
+                  url-at f s 8 h 260 g,
                   none-left f (8 + first-zero (drop 8 f) + 1) m,
-                  ne-eqb _ _ (λ x. k (x ∙ url-size t (take (first-zero (drop 8 f)) (drop 8 f)) ∙ ap (λ (v : ℕ). 5 + v) url-length)))
+                  ne-eqb _ _ (λ x. k (x ∙ url-size t (take (first-zero (drop 8 f)) (drop 8 f)) ∙ ap (λ (v : ℕ). 5 + v) url-length)),
+                )
 
             pub open-reads : value-at 2 f 2 ≡ 5 + first-zero (drop 8 f)
                 → form head.FileReferenceOpen .read f
                 ≡ some (record { context = value-at 2 f 0; type = t; url = take (first-zero (drop 8 f)) (drop 8 f) })
             open-reads v =
                 rw (
-                  unsigned-at f s 2 0 (omega arith), unsigned-at f s 2 2 (omega arith), e, url-at f s 8 h 260 g,
+                  unsigned-at f s 2 0 (omega arith),
+                  unsigned-at f s 2 2 (omega arith),
+                  e,
+                  url-at f s 8 h 260 g,
                   none-left f (8 + first-zero (drop 8 f) + 1) m,
-                  eq-eqb _ _ (v ∙ ap (λ (v : ℕ). 5 + v) (sym url-length) ∙ sym (url-size t (take (first-zero (drop 8 f)) (drop 8 f)))))
+                  eq-eqb _ _ (v ∙ ap (λ (v : ℕ). 5 + v) (sym url-length) ∙ sym (url-size t (take (first-zero (drop 8 f)) (drop 8 f)))),
+                )
 
             pub open-found : value-at 2 f 2 ≡ 5 + first-zero (drop 8 f) → (l : ℕ) → l ≡ first-zero (drop 8 f)
                 → Reads head.FileReferenceOpen (Is (FileReference (Open (value-at 2 f 0) t)) 8 l 0 0) f

@@ -46,12 +46,18 @@ module _ (f : List ℕ) (s : Seven f) where
         let e8 : i + 7 + 1 ≡ i + 8 = omega arith in
         rw (
           unsigned-at f s 2 i (omega arith),
-          unsigned-at f s 1 (i + 2) (omega arith), e3,
-          unsigned-at f s 2 (i + 3) (omega arith), e5,
-          unsigned-at f s 1 (i + 5) (omega arith), e6,
-          range-at 0 3 (lit≤ tt) (lit< tt) f (i + 6) (omega arith) (omega arith) p, e7,
-          unsigned-at f s 1 (i + 7) (omega arith), e8,
-          value-get f (i + 6))
+          unsigned-at f s 1 (i + 2) (omega arith),
+          e3,
+          unsigned-at f s 2 (i + 3) (omega arith),
+          e5,
+          unsigned-at f s 1 (i + 5) (omega arith),
+          e6,
+          range-at 0 3 (lit≤ tt) (lit< tt) f (i + 6) (omega arith) (omega arith) p,
+          e7,
+          unsigned-at f s 1 (i + 7) (omega arith),
+          e8,
+          value-get f (i + 6),
+        )
 
     pub map-bad : 3 < getD f (i + 6) 0 → sound-file-map .read (drop i f) ≡ bad
     map-bad p =
@@ -60,10 +66,14 @@ module _ (f : List ℕ) (s : Seven f) where
         let e6 : i + 5 + 1 ≡ i + 6 = omega arith in
         rw (
           unsigned-at f s 2 i (omega arith),
-          unsigned-at f s 1 (i + 2) (omega arith), e3,
-          unsigned-at f s 2 (i + 3) (omega arith), e5,
-          unsigned-at f s 1 (i + 5) (omega arith), e6,
-          range-above 0 3 (lit≤ tt) (lit< tt) f (i + 6) (omega arith) p)
+          unsigned-at f s 1 (i + 2) (omega arith),
+          e3,
+          unsigned-at f s 2 (i + 3) (omega arith),
+          e5,
+          unsigned-at f s 1 (i + 5) (omega arith),
+          e6,
+          range-above 0 3 (lit≤ tt) (lit< tt) f (i + 6) (omega arith) p,
+        )
 
     -- the entry of a map says the map
     map-again : map-of (map-entry (map-at f i)) ≡ map-at f i
@@ -118,12 +128,19 @@ module _ (f : List ℕ) (s : Seven f) where
       let e9 : i + 8 + 1 ≡ i + 9 = omega arith in
       rw (
         unsigned-at f s 2 i (omega arith),
-        unsigned-at f s 1 (i + 2) (omega arith), e3,
-        unsigned-at f s 1 (i + 3) (omega arith), e4,
-        unsigned-at f s 1 (i + 4) (omega arith), e5,
-        unsigned-at f s 1 (i + 5) (omega arith), e6,
-        unsigned-at f s 2 (i + 6) (omega arith), e8,
-        unsigned-at f s 1 (i + 8) (omega arith), e9)
+        unsigned-at f s 1 (i + 2) (omega arith),
+        e3,
+        unsigned-at f s 1 (i + 3) (omega arith),
+        e4,
+        unsigned-at f s 1 (i + 4) (omega arith),
+        e5,
+        unsigned-at f s 1 (i + 5) (omega arith),
+        e6,
+        unsigned-at f s 2 (i + 6) (omega arith),
+        e8,
+        unsigned-at f s 1 (i + 8) (omega arith),
+        e9,
+      )
 
   -- ---- an offset
 
@@ -142,8 +159,12 @@ module _ (f : List ℕ) (s : Seven f) where
         let e6 : i + 4 + 2 ≡ i + 6 = omega arith in
         let e7 : i + 6 + 1 ≡ i + 7 = omega arith in
         rw (
-          e, unsigned-at f s 2 (i + 4) (omega arith), e6,
-          range-at 0 1 (lit≤ tt) (lit< tt) f (i + 6) (omega arith) (omega arith) p, e7)
+          e,
+          unsigned-at f s 2 (i + 4) (omega arith),
+          e6,
+          range-at 0 1 (lit≤ tt) (lit< tt) f (i + 6) (omega arith) (omega arith) p,
+          e7,
+        )
 
 -- ---- the flags of a bank map
 

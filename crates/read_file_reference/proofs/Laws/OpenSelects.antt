@@ -66,16 +66,26 @@ module _ (f : List ℕ) (s : Seven f) where
             pub both-unsaid : (value-at 2 f 2 ≡ 5 + first-zero (drop 8 f) + select-length x → ⊥) → form head.FileReferenceOpenSelect .read f ≡ none
             both-unsaid k =
                 rw (
-                  unsigned-at f s 2 0 (omega arith), unsigned-at f s 2 2 (omega arith), e, url-at f s 8 h 260 g, d,
-                  ne-eqb _ _ (λ v. k (v ∙ ap (λ (u : ℕ). 5 + u + select-length x) url-length)))
+                  unsigned-at f s 2 0 (omega arith),
+                  unsigned-at f s 2 2 (omega arith),
+                  e,
+                  url-at f s 8 h 260 g,
+                  d,
+                  ne-eqb _ _ (λ v. k (v ∙ ap (λ (u : ℕ). 5 + u + select-length x) url-length)),
+                )
 
             pub both-reads : value-at 2 f 2 ≡ 5 + first-zero (drop 8 f) + select-length x
                 → form head.FileReferenceOpenSelect .read f
                 ≡ some (record { context = value-at 2 f 0; type = t; url = take (first-zero (drop 8 f)) (drop 8 f); map = x })
             both-reads v =
                 rw (
-                  unsigned-at f s 2 0 (omega arith), unsigned-at f s 2 2 (omega arith), e, url-at f s 8 h 260 g, d,
-                  eq-eqb _ _ (v ∙ ap (λ (u : ℕ). 5 + u + select-length x) (sym url-length)))
+                  unsigned-at f s 2 0 (omega arith),
+                  unsigned-at f s 2 2 (omega arith),
+                  e,
+                  url-at f s 8 h 260 g,
+                  d,
+                  eq-eqb _ _ (v ∙ ap (λ (u : ℕ). 5 + u + select-length x) (sym url-length)),
+                )
 
           -- ---- by what was found from j on
 

@@ -65,7 +65,8 @@ module _ (f : List ℕ) (s : Seven f) (i : ℕ) where
         let l = length-drop i f in
         rw (
           list-other (drop i f) (λ e. k (sym l ∙ e ∙ ap (λ (x : ℕ). 1 + 8 * x) (first i f))),
-          offset-length (drop i f) (λ e. j (sym l ∙ e)))
+          offset-length (drop i f) (λ e. j (sym l ∙ e)),
+        )
       where
         first : (i : ℕ) (f : List ℕ) → getD (drop i f) 0 0 ≡ getD f i 0
         first zero f = refl
@@ -78,8 +79,13 @@ module _ (f : List ℕ) (s : Seven f) (i : ℕ) where
         let g : getD f i 0 < 128 = seven-get f i s in
         let d : i + 1 + 8 * getD f i 0 ≡ length f = omega arith in
         rw (
-          drop-cons f i 0 (omega arith), lt-ltb _ _ g, ← add-one i, maps-read f s (getD f i 0) (i + 1) (omega arith), e,
-          none-left f (i + 1 + 8 * getD f i 0) (sym d))
+          drop-cons f i 0 (omega arith),
+          lt-ltb _ _ g,
+          ← add-one i,
+          maps-read f s (getD f i 0) (i + 1) (omega arith),
+          e,
+          none-left f (i + 1 + 8 * getD f i 0) (sym d),
+        )
 
     pub bank-flags : length f - i ≡ 1 + 8 * getD f i 0 → (length f - i ≡ 7 → ⊥) → flags-fit f (i + 1) (getD f i 0) ≡ false
         → bank-only .read (drop i f) ≡ none
@@ -87,7 +93,7 @@ module _ (f : List ℕ) (s : Seven f) (i : ℕ) where
         let g : getD f i 0 < 128 = seven-get f i s in
         let x = offset-length (drop i f) (λ x. j (sym (length-drop i f) ∙ x)) in
         let y : end (counted sound-file-map) .read (drop i f) ≡ none =
-            rw (drop-cons f i 0 (omega arith), lt-ltb _ _ g, ← add-one i, maps-read f s (getD f i 0) (i + 1) (omega arith), e) in
+        rw (drop-cons f i 0 (omega arith), lt-ltb _ _ g, ← add-one i, maps-read f s (getD f i 0) (i + 1) (omega arith), e) in
         rw (y, x)
 
     -- the list was found: k maps from i + 1 on
@@ -96,7 +102,7 @@ module _ (f : List ℕ) (s : Seven f) (i : ℕ) where
     bank-maps-found k e n t =
         let x = ap (λ (v : ℕ). 1 + 8 * v) e in
         let r = bank-maps (n ∙ x) (sym (ap (λ (v : ℕ). flags-fit f (i + 1) v) e) ∙ t)
-            ∙ ap (λ (v : ℕ). some (bankSelect (mapList (map map-of (map-entries f (i + 1) v))))) (sym e) in
+        ∙ ap (λ (v : ℕ). some (bankSelect (mapList (map map-of (map-entries f (i + 1) v))))) (sym e) in
         let w = bank-only .only (drop i f) _ r .1 in
         let g : getD f i 0 < 128 = seven-get f i s in
         record {

@@ -30,9 +30,15 @@ strip-at f i a b c d h =
     let e3 : i + 3 ≡ suc (suc (suc i)) = omega arith in
     let e4 : i + 4 ≡ suc (suc (suc (suc i))) = omega arith in
     rw (
-      e1, e2, e3, e4,
-      drop-cons f i 0 (omega arith), drop-cons f (suc i) 0 (omega arith), drop-cons f (suc (suc i)) 0 (omega arith),
-      drop-cons f (suc (suc (suc i))) 0 (omega arith))
+      e1,
+      e2,
+      e3,
+      e4,
+      drop-cons f i 0 (omega arith),
+      drop-cons f (suc i) 0 (omega arith),
+      drop-cons f (suc (suc i)) 0 (omega arith),
+      drop-cons f (suc (suc (suc i))) 0 (omega arith),
+    )
 
 -- ---- the first 00
 

@@ -22,8 +22,7 @@ returns : tie.Need-returns
 returns c =
     let s = c .before .before .before .before .before .before in
     let f = now (s .args .f) in
-    let e = c .before .before .before .p .given .1 in
-    (
+    let e = c .before .before .before .p .given .1 in (
       λ k. reads-none head.SelectSoundFile _ (bank-unsaid f (s .pre .0) (s .pre .1) (subst (λ (q : Picked). Picks bank-only q f 4) e k) (λ v. c .if1 .taken (c .before .said .ensures ∙ v))),
       λ k. reads-none head.SelectWAV _ (wav-unsaid f (s .pre .0) (s .pre .1) (subst (λ (q : Picked). Picks wav-only q f 4) e k) (λ v. c .if1 .taken (c .before .said .ensures ∙ v))),
     )
@@ -38,8 +37,7 @@ returns-2 : tie.Need-returns-2
 returns-2 c =
     let s = c .before .before .before .before .before .before .before in
     let f = now (s .args .f) in
-    let e = c .before .before .before .before .p .given .1 in
-    (
+    let e = c .before .before .before .before .p .given .1 in (
       λ k. rw (c .u14-at .ensures) (bank-found f (s .pre .0) (s .pre .1) (subst (λ (q : Picked). Picks bank-only q f 4) e k) (sym (c .before .before .said .ensures) ∙ c .before .if1 .left)),
       λ k. rw (c .u14-at .ensures) (wav-found f (s .pre .0) (s .pre .1) (subst (λ (q : Picked). Picks wav-only q f 4) e k) (sym (c .before .before .said .ensures) ∙ c .before .if1 .left)),
     )
@@ -48,8 +46,7 @@ returns-3 : tie.Need-returns-3
 returns-3 c =
     let s = c .before .before .before in
     let f = now (s .args .f) in
-    let e = c .enum-told .given .1 in
-    (
+    let e = c .enum-told .given .1 in (
       λ k. reads-none head.SelectSoundFile _ (bank-nothing f (s .pre .0) (s .pre .1) (subst (λ (q : Picked). Picks bank-only q f 4) e k)),
       λ k. reads-none head.SelectWAV _ (wav-nothing f (s .pre .0) (s .pre .1) (subst (λ (q : Picked). Picks wav-only q f 4) e k)),
     )
