@@ -2,12 +2,11 @@
 -- Assumes nothing.
 use mathlib.Core.Path.{_≡_}
 use mathlib.Core.List.{_∷_}
-use Prim.Native.Nat.{ℕ, _+_, _*_, _/_, _%_, _^_, _<_}
+use Prim.Native.Nat.{ℕ, _/_, _%_, _^_, _<_}
 use native.Mathlib.Nat.{mod-lt, zero-lt-suc}
 use native.Mathlib.Omega.{arith}
 use borrow.Author.Tests.{lt-ltb, le-ltb, ne-eqb}
-use Rattle.util.specs.Groups.{groups}
-use Rattle.util.proofs.Laws.Groups.{groups-seven, true-seven, value-groups}
+use Rattle.util.proofs.Laws.Groups.{value-groups}
 use Rattle.messages.specs.Types.{ManufacturerID}
 use Rattle.messages.specs.declared.«system_exclusive».ManufacturerID.the-variants.{OneByte, Extended}
 use Rattle.messages.specs.declared.«system_exclusive».IdentityReading.the-variants.{Reply}

@@ -8,18 +8,16 @@ use messages::system_exclusive::DeviceID;
 use messages::system_exclusive::UniversalNonRealTimeMsg;
 use reading::Found;
 ghost use mathlib.Core.Path.{_≡_};
-ghost use Prim.Native.Nat.{_≤_, _-_};
+ghost use Prim.Native.Nat.{_≤_};
 ghost use lib.ListN.{length};
 ghost use Rattle.util.specs.Groups.{Seven};
 ghost use Rattle.util.specs.Splice.{front};
 ghost use Rattle.messages.specs.declared.head.Head.the-variants as head;
 ghost use Rattle.messages.specs.declared.«file_dump».FileDumpMsg.the-variants as file;
 ghost use Rattle.messages.specs.declared.«system_exclusive».UniversalNonRealTimeMsg.the-variants as msg;
-ghost use Rattle.messages.specs.Fields.{device-of};
-ghost use Rattle.reading.specs.Places.{value-at, data-at};
+ghost use Rattle.reading.specs.Places.{data-at};
 ghost use Rattle.reading.specs.Found.{Reads};
 ghost use Rattle.reading.specs.declared.Found.the-variants as found;
-ghost use Rattle.read_file_dump.specs.Places.{type-at};
 
 // The most bytes of a file name, and the most data bytes of a packet.
 const MOST_NAME: usize = 1024;

@@ -1,6 +1,6 @@
 // Packed data: the number of data bytes, what is left over, and the data bytes.
 ghost use mathlib.Core.Path.{_≡_};
-ghost use Prim.Native.Nat.{_+_, _-_, _*_, _/_, _%_, _^_, _≤_, _<_};
+ghost use Prim.Native.Nat.{_+_, _-_, _/_, _%_, _^_, _≤_, _<_};
 ghost use lib.ListN.{length};
 ghost use Rattle.util.specs.Groups.{Seven};
 ghost use Rattle.util.specs.Splice.{front};

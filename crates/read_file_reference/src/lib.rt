@@ -23,6 +23,9 @@ ghost use Rattle.read_file_reference.specs.Picked.{Picks};
 mod maps;
 mod texts;
 
+// Where a URL of 260 bytes ends.
+const LAST_END: usize = 268;
+
 // 0B 04 close.
 pub fn close(f: &[u8]) -> Found
     requires { ⌜ Seven (now f) ⌝ }
@@ -69,7 +72,7 @@ fn open_typed(f: &[u8], file_type: FileReferenceType) -> Found
     if f.len() <= end {
         return Found::Nothing;
     }
-    if 268 < end {
+    if LAST_END < end {
         return Found::Nothing;
     }
     if f.len() != end + 1 {
@@ -172,7 +175,7 @@ fn open_select_typed(f: &[u8], file_type: FileReferenceType) -> Found
     if f.len() <= end {
         return Found::Nothing;
     }
-    if 268 < end {
+    if LAST_END < end {
         return Found::Nothing;
     }
     match map_for(f, file_type, end + 1) {

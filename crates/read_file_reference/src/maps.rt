@@ -29,12 +29,13 @@ pub enum Picked {
     Nothing,
 }
 
-// A bank offset and its drum flag, or nothing.
+// A bank offset with its drum flag, or nothing.
 pub enum OffsetFound {
     Is { bank_offset: u16, src_drum: bool },
     Nothing,
 }
 
+// A byte as a number of places.
 fn wide(b: u8) -> usize
     ensures { λ r. ⌜ (r ≡ b) × (r ≤ 255) ⌝ }
 {
@@ -64,13 +65,15 @@ fn map_at(f: &[u8], i: usize) -> SoundFileMap
     ensures { λ r. ⌜ r ≡ map-at (now (f .entry)) i ⌝ }
 {
     let flags = u7_at(f, i + 6);
+    let source = is_source(flags);
+    let target = is_target(flags);
     SoundFileMap {
         dst_bank: u14_at(f, i),
         dst_prog: u7_at(f, i + 2),
         src_bank: u14_at(f, i + 3),
         src_prog: u7_at(f, i + 5),
-        src_drum: is_source(flags),
-        dst_drum: is_target(flags),
+        src_drum: source,
+        dst_drum: target,
         volume: u7_at(f, i + 7),
     }
 }

@@ -1,13 +1,13 @@
 -- What the layouts of identity, General MIDI and handshake messages read, by place.
 -- Assumes nothing.
 use mathlib.Core.Path.{_≡_, refl, sym, ap, _∙_}
-use mathlib.Core.Bool.{Bool, true, false}
-use mathlib.Core.Option.{Option, none, some}
+use mathlib.Core.Bool.{true, false}
+use mathlib.Core.Option.{none, some}
 use mathlib.Core.List.{List, [], _∷_}
-use Prim.Native.Nat.{ℕ, zero, suc, _+_, _≤_, _<_}
+use Prim.Native.Nat.{ℕ, _+_, _≤_, _<_}
 use native.Mathlib.Omega.{arith}
 use lib.Dec.{lit<, lit≤, eqb}
-use lib.ListN.{length, take, drop, getD}
+use lib.ListN.{length, drop, getD}
 use borrow.Author.Tests.{eqb-true}
 use Rattle.util.specs.Groups.{Seven}
 use Rattle.util.proofs.Laws.Options.{not-some}
@@ -16,7 +16,7 @@ use Rattle.messages.specs.declared.head.Head.the-variants as head
 use Rattle.messages.specs.declared.«system_exclusive».UniversalNonRealTimeMsg.{UniversalNonRealTimeMsg}
 use Rattle.messages.specs.declared.«system_exclusive».DeviceID.{DeviceID}
 use Rattle.messages.specs.declared.«system_exclusive».ManufacturerID.the-variants.{OneByte, Extended}
-use Rattle.messages.specs.format.Core.{Part, Whole}
+use Rattle.messages.specs.format.Core.{Whole}
 use Rattle.messages.specs.format.Sequence.{_⊗_, end, nothing, strip}
 use Rattle.messages.specs.format.Tests.{other-length}
 use Rattle.messages.specs.Fields.{u7, zero-then, one-byte-maker, extended-maker}

@@ -1,27 +1,23 @@
 -- The heads of file references, by place.
 -- Assumes nothing.
 use mathlib.Core.Path.{_≡_, refl, sym, ap, _∙_}
-use mathlib.Core.Bool.{Bool, true, false}
-use mathlib.Core.Option.{Option, none, some}
+use mathlib.Core.Option.{none, some}
 use mathlib.Core.List.{List, [], _∷_, _++_}
-use Prim.Native.Nat.{ℕ, zero, suc, _+_, _*_, _-_, _<_, _≤_}
+use Prim.Native.Nat.{ℕ, suc, _+_, _<_, _≤_}
 use native.Mathlib.Omega.{arith}
-use native.Mathlib.Numerals.{add-one}
-use lib.Dec.{eqb}
-use lib.ListN.{length, take, drop, getD, length-append, length-drop}
-use lib.Seq.{drop-cons, length-take-le}
+use lib.ListN.{length, take, drop, getD, length-append}
+use lib.Seq.{drop-cons}
 use borrow.Author.Tests.{eq-eqb, ne-eqb}
 use Rattle.util.specs.Groups.{Seven}
-use Rattle.util.specs.Options.{map-option}
-use Rattle.util.proofs.Laws.Options.{not-some, none-some, some-none}
+use Rattle.util.proofs.Laws.Options.{not-some}
 use Rattle.messages.specs.declared.head.Head.the-variants as head
 use Rattle.messages.specs.declared.«system_exclusive».UniversalNonRealTimeMsg.the-variants.{FileReference}
 use Rattle.messages.specs.declared.«file_reference».FileReferenceMsg.the-variants.{Open}
 use Rattle.messages.specs.declared.«file_reference».FileReferenceType.{FileReferenceType}
-use Rattle.messages.specs.format.Core.{Got, bad, got}
+use Rattle.messages.specs.format.Core.{bad, got}
 use Rattle.messages.specs.format.Tests.{other-length}
 use Rattle.messages.specs.format.Tags.{look}
-use Rattle.messages.specs.Maps.{AnySelect, reference-types, reference-code, reference-size, select-for, select-length, type-url-map}
+use Rattle.messages.specs.Maps.{reference-types, reference-code, reference-size}
 use Rattle.messages.specs.Layouts.{form}
 use Rattle.messages.specs.Messages.{plain-answer}
 use Rattle.reading.specs.Places.{value-at}
@@ -30,7 +26,11 @@ use Rattle.reading.specs.declared.Found.the-variants.{Is}
 use Rattle.reading.proofs.Laws.Numbers.{unsigned-at}
 use Rattle.reading.proofs.Laws.Answers.{none-left}
 use Rattle.read_file_reference.specs.Texts.{first-zero}
-use Rattle.read_file_reference.proofs.Laws.Texts.{url-none, url-long, url-at, zero-most}
+use Rattle.read_file_reference.proofs.Laws.Texts.{url-none, url-long, url-at, url-length}
+
+-- four letters, the URL and 00
+url-size : (t : FileReferenceType) (u : List ℕ) → length (reference-code t ++ (u ++ (0 ∷ []))) ≡ 5 + length u
+url-size t u = omega (arith, reference-size t, length-append (reference-code t) (u ++ (0 ∷ [])), length-append u (0 ∷ []))
 
 module _ (f : List ℕ) (s : Seven f) where
   -- ---- 0B 04
@@ -49,10 +49,6 @@ module _ (f : List ℕ) (s : Seven f) where
       rw (unsigned-at f s 2 0 (omega arith), drop-cons f 2 0 (omega arith), a, drop-cons f 3 0 (omega arith), b, none-left f 4 n)
 
   -- ---- 0B 01
-
-  -- four letters, the URL and 00
-  url-size : (t : FileReferenceType) (u : List ℕ) → length (reference-code t ++ (u ++ (0 ∷ []))) ≡ 5 + length u
-  url-size t u = omega (arith, reference-size t, length-append (reference-code t) (u ++ (0 ∷ [])), length-append u (0 ∷ []))
 
   pub open-short : length f < 9 → form head.FileReferenceOpen .read f ≡ none
   open-short h =
@@ -84,9 +80,6 @@ module _ (f : List ℕ) (s : Seven f) where
                 drop-cons f (8 + first-zero (drop 8 f) + 1) 0 (omega arith),
               )
 
-          url-length : length (take (first-zero (drop 8 f)) (drop 8 f)) ≡ first-zero (drop 8 f)
-          url-length = length-take-le (first-zero (drop 8 f)) (drop 8 f) (zero-most (drop 8 f))
-
           module _ (m : length f ≡ 8 + first-zero (drop 8 f) + 1) where
             pub open-said : (value-at 2 f 2 ≡ 5 + first-zero (drop 8 f) → ⊥) → form head.FileReferenceOpen .read f ≡ none
             open-said k =
@@ -96,7 +89,7 @@ module _ (f : List ℕ) (s : Seven f) where
                   e,
                   url-at f s 8 h 260 g,
                   none-left f (8 + first-zero (drop 8 f) + 1) m,
-                  ne-eqb _ _ (λ x. k (x ∙ url-size t (take (first-zero (drop 8 f)) (drop 8 f)) ∙ ap (λ (v : ℕ). 5 + v) url-length)),
+                  ne-eqb _ _ (λ x. k (x ∙ url-size t (take (first-zero (drop 8 f)) (drop 8 f)) ∙ ap (λ (v : ℕ). 5 + v) (url-length (drop 8 f)))),
                 )
 
             pub open-reads : value-at 2 f 2 ≡ 5 + first-zero (drop 8 f)
@@ -109,7 +102,7 @@ module _ (f : List ℕ) (s : Seven f) where
                   e,
                   url-at f s 8 h 260 g,
                   none-left f (8 + first-zero (drop 8 f) + 1) m,
-                  eq-eqb _ _ (v ∙ ap (λ (v : ℕ). 5 + v) (sym url-length) ∙ sym (url-size t (take (first-zero (drop 8 f)) (drop 8 f)))),
+                  eq-eqb _ _ (v ∙ ap (λ (v : ℕ). 5 + v) (sym (url-length (drop 8 f))) ∙ sym (url-size t (take (first-zero (drop 8 f)) (drop 8 f)))),
                 )
 
             pub open-found : value-at 2 f 2 ≡ 5 + first-zero (drop 8 f) → (l : ℕ) → l ≡ first-zero (drop 8 f)

@@ -1,21 +1,19 @@
 -- The maps of file references, by place.
 -- Assumes nothing.
 use mathlib.Core.Path.{_≡_, refl, sym, ap, ap₂, _∙_}
-use mathlib.Core.Bool.{Bool, true, false, not, _&&_}
-use mathlib.Core.Option.{Option, none, some}
+use mathlib.Core.Bool.{Bool, true, false, not}
+use mathlib.Core.Option.{none, some}
 use mathlib.Core.List.{List, [], _∷_, map}
 use Prim.Native.Nat.{ℕ, zero, suc, _+_, _*_, _-_, _<_, _≤_}
 use native.Mathlib.Nat.{add-zero, mul-zero, mul-suc}
 use native.Mathlib.Omega.{arith}
-use native.Mathlib.Numerals.{add-one}
 use lib.Dec.{eqb, ltb, leb, lit<, lit≤}
-use lib.ListN.{length, take, drop, getD}
+use lib.ListN.{length, drop, getD}
 use lib.Seq.{drop-cons, drop-drop}
 use borrow.Author.Tests.{lt-ltb, le-leb, lt-leb, leb-true, leb-false, ne-eqb}
 use Rattle.util.specs.Groups.{Seven}
-use Rattle.util.specs.Options.{only-if}
 use Rattle.messages.specs.declared.«file_reference».SoundFileMap.{SoundFileMap}
-use Rattle.messages.specs.format.Core.{Got, bad, got, guard, bind}
+use Rattle.messages.specs.format.Core.{bad, got, guard, bind}
 use Rattle.messages.specs.format.Numbers.{read-range}
 use Rattle.messages.specs.format.Sequence.{strip}
 use Rattle.messages.specs.format.Lists.{all-read}
@@ -23,7 +21,7 @@ use Rattle.messages.specs.Fields.{is-set, bits-of}
 use Rattle.messages.specs.Entries.{map-entry, map-of}
 use Rattle.messages.specs.Maps.{sound-file-map, wav-map, offset}
 use Rattle.messages.proofs.Entries.{map-back}
-use Rattle.reading.specs.Places.{value-at, map-at, entries-at, map-entries}
+use Rattle.reading.specs.Places.{value-at, map-at, map-entries}
 use Rattle.reading.proofs.Laws.Numbers.{unsigned-at, range-at, value-get, value-lt}
 use Rattle.read_file_reference.specs.Maps.{wav-at, flags-fit}
 

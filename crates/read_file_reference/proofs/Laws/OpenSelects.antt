@@ -1,12 +1,11 @@
 -- 0B 03, by the type, the URL and the map that was found.
 -- Assumes nothing.
-use mathlib.Core.Path.{_≡_, refl, sym, ap, _∙_}
-use mathlib.Core.Option.{Option, none, some}
+use mathlib.Core.Path.{_≡_, sym, ap, _∙_}
+use mathlib.Core.Option.{none, some}
 use mathlib.Core.List.{List, [], _∷_, _++_}
-use Prim.Native.Nat.{ℕ, suc, _+_, _-_, _<_, _≤_}
+use Prim.Native.Nat.{ℕ, suc, _+_, _<_, _≤_}
 use native.Mathlib.Omega.{arith}
 use lib.ListN.{length, take, drop, length-append}
-use lib.Seq.{length-take-le}
 use borrow.Author.Tests.{eq-eqb, ne-eqb}
 use Rattle.util.specs.Groups.{Seven}
 use Rattle.util.proofs.Laws.Options.{not-some}
@@ -15,7 +14,7 @@ use Rattle.messages.specs.declared.«system_exclusive».UniversalNonRealTimeMsg
 use Rattle.messages.specs.declared.«file_reference».FileReferenceMsg.the-variants.{OpenSelectContents}
 use Rattle.messages.specs.declared.«file_reference».FileReferenceType.{FileReferenceType}
 use Rattle.messages.specs.declared.«file_reference».SelectMap.{SelectMap}
-use Rattle.messages.specs.format.Core.{Got, bad, got}
+use Rattle.messages.specs.format.Core.{bad, got}
 use Rattle.messages.specs.format.Tags.{look}
 use Rattle.messages.specs.Maps.{AnySelect, reference-types, reference-code, reference-size, select-for, select-length}
 use Rattle.messages.specs.Layouts.{form}
@@ -27,14 +26,14 @@ use Rattle.reading.proofs.Laws.Numbers.{unsigned-at}
 use Rattle.read_file_reference.specs.Texts.{first-zero}
 use Rattle.read_file_reference.specs.Picked.{Picks}
 use Rattle.read_file_reference.specs.declared.maps.Picked.the-variants.{Is, Nothing}
-use Rattle.read_file_reference.proofs.Laws.Texts.{url-none, url-long, url-at, zero-most}
+use Rattle.read_file_reference.proofs.Laws.Texts.{url-none, url-long, url-at, url-length}
+
+-- four letters, the URL, 00 and a map
+map-size : (t : FileReferenceType) (u m : List ℕ) → 5 ≤ length (reference-code t ++ ((u ++ (0 ∷ [])) ++ m))
+map-size t u m =
+    omega (arith, reference-size t, length-append (reference-code t) ((u ++ (0 ∷ [])) ++ m), length-append (u ++ (0 ∷ [])) m, length-append u (0 ∷ []))
 
 module _ (f : List ℕ) (s : Seven f) where
-  -- four letters, the URL, 00 and a map
-  map-size : (t : FileReferenceType) (u m : List ℕ) → 5 ≤ length (reference-code t ++ ((u ++ (0 ∷ [])) ++ m))
-  map-size t u m =
-      omega (arith, reference-size t, length-append (reference-code t) ((u ++ (0 ∷ [])) ++ m), length-append (u ++ (0 ∷ [])) m, length-append u (0 ∷ []))
-
   pub both-short : length f < 9 → form head.FileReferenceOpenSelect .read f ≡ none
   both-short h =
       not-some (form head.FileReferenceOpenSelect .read f)
@@ -59,9 +58,6 @@ module _ (f : List ℕ) (s : Seven f) where
           pub both-none : select-for t .read (drop (8 + first-zero (drop 8 f) + 1) f) ≡ none → form head.FileReferenceOpenSelect .read f ≡ none
           both-none x = rw (unsigned-at f s 2 0 (omega arith), unsigned-at f s 2 2 (omega arith), e, url-at f s 8 h 260 g, x)
 
-          url-length : length (take (first-zero (drop 8 f)) (drop 8 f)) ≡ first-zero (drop 8 f)
-          url-length = length-take-le (first-zero (drop 8 f)) (drop 8 f) (zero-most (drop 8 f))
-
           module _ (x : AnySelect) (d : select-for t .read (drop (8 + first-zero (drop 8 f) + 1) f) ≡ some x) where
             pub both-unsaid : (value-at 2 f 2 ≡ 5 + first-zero (drop 8 f) + select-length x → ⊥) → form head.FileReferenceOpenSelect .read f ≡ none
             both-unsaid k =
@@ -71,7 +67,7 @@ module _ (f : List ℕ) (s : Seven f) where
                   e,
                   url-at f s 8 h 260 g,
                   d,
-                  ne-eqb _ _ (λ v. k (v ∙ ap (λ (u : ℕ). 5 + u + select-length x) url-length)),
+                  ne-eqb _ _ (λ v. k (v ∙ ap (λ (u : ℕ). 5 + u + select-length x) (url-length (drop 8 f)))),
                 )
 
             pub both-reads : value-at 2 f 2 ≡ 5 + first-zero (drop 8 f) + select-length x
@@ -84,7 +80,7 @@ module _ (f : List ℕ) (s : Seven f) where
                   e,
                   url-at f s 8 h 260 g,
                   d,
-                  eq-eqb _ _ (v ∙ ap (λ (u : ℕ). 5 + u + select-length x) (sym url-length)),
+                  eq-eqb _ _ (v ∙ ap (λ (u : ℕ). 5 + u + select-length x) (sym (url-length (drop 8 f)))),
                 )
 
           -- ---- by what was found from j on

@@ -2,29 +2,28 @@
 -- Assumes nothing.
 use mathlib.Core.Path.{_≡_, refl, sym, ap, _∙_}
 use mathlib.Core.Bool.{Bool, true, false}
-use mathlib.Core.Option.{Option, none, some}
+use mathlib.Core.Option.{none, some}
 use mathlib.Core.List.{List, [], _∷_, map}
 use Prim.Native.Nat.{ℕ, zero, suc, _+_, _*_, _-_, _<_, _≤_}
 use native.Mathlib.Omega.{arith}
 use native.Mathlib.Numerals.{add-one}
-use lib.Dec.{leb, ltb}
-use lib.ListN.{length, take, drop, getD, length-drop}
+use lib.ListN.{length, drop, getD, length-drop}
 use lib.Seq.{drop-cons}
 use borrow.Author.Tests.{lt-ltb}
 use Rattle.util.specs.Groups.{Seven}
 use Rattle.util.proofs.Laws.Options.{not-some}
 use Rattle.messages.specs.declared.«file_reference».SelectMap.the-variants.{SoundFile, WAV, SoundFileBankOffset, WAVBankOffset}
-use Rattle.messages.specs.format.Core.{Got, bad, got, Whole}
+use Rattle.messages.specs.format.Core.{bad, got, Whole}
 use Rattle.messages.specs.format.Sequence.{end, _⊗_}
 use Rattle.messages.specs.format.Lists.{counted, all-bytes}
 use Rattle.messages.specs.format.Tests.{other-length}
 use Rattle.messages.specs.Entries.{map-entry, map-of}
-use Rattle.messages.specs.Maps.{BankOffset, AnySelect, bankSelect, wavSelect, mapList, mapOffset, wavMap, wavMapOffset, sound-file-map, wav-map, offset, bank-select, bank-only, wav-only, maps-size}
+use Rattle.messages.specs.Maps.{BankOffset, AnySelect, bankSelect, wavSelect, mapList, mapOffset, wavMap, wavMapOffset, sound-file-map, wav-map, offset, bank-only, wav-only, maps-size}
 use Rattle.reading.specs.Places.{map-at, map-entries}
 use Rattle.reading.proofs.Laws.Numbers.{seven-get}
 use Rattle.reading.proofs.Laws.Answers.{none-left}
 use Rattle.reading.proofs.Laws.Lists.{entries-length}
-use Rattle.read_file_reference.specs.Maps.{wav-at, offset-got, flags-fit}
+use Rattle.read_file_reference.specs.Maps.{wav-at, flags-fit}
 use Rattle.read_file_reference.specs.Picked.{Picks}
 use Rattle.read_file_reference.specs.declared.maps.Picked.the-variants.{Is, Nothing}
 use Rattle.read_file_reference.proofs.Laws.Maps.{maps-read, wav-read}

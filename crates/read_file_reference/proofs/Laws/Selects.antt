@@ -2,14 +2,14 @@
 -- Assumes nothing.
 use mathlib.Core.Path.{_≡_, refl, sym, ap, _∙_}
 use mathlib.Core.Option.{Option, none, some}
-use mathlib.Core.List.{List, [], _∷_, _++_, map}
-use Prim.Native.Nat.{ℕ, suc, _+_, _^_, _<_, _≤_}
+use mathlib.Core.List.{List, map}
+use Prim.Native.Nat.{ℕ, suc, _^_, _<_, _≤_}
 use native.Mathlib.Omega.{arith}
-use lib.ListN.{length, take, drop}
+use lib.ListN.{length, drop}
 use borrow.Author.Tests.{eq-eqb, ne-eqb}
 use Rattle.util.specs.Groups.{Seven}
 use Rattle.util.specs.Options.{map-option}
-use Rattle.util.proofs.Laws.Options.{not-some, none-some, some-none, map-option-some}
+use Rattle.util.proofs.Laws.Options.{not-some, none-some, some-none}
 use Rattle.messages.specs.declared.head.Head.the-variants as head
 use Rattle.messages.specs.declared.«system_exclusive».DeviceID.{DeviceID}
 use Rattle.messages.specs.declared.«system_exclusive».UniversalNonRealTimeMsg.the-variants.{FileReference}
@@ -19,7 +19,7 @@ use Rattle.messages.specs.declared.«file_reference».SelectMap.the-variants.{S
 use Rattle.messages.specs.format.Core.{Whole}
 use Rattle.messages.specs.format.Sequence.{_⊗w_}
 use Rattle.messages.specs.format.Views.{_namedW_}
-use Rattle.messages.specs.format.Alternatives.{Either, left, right, orRight}
+use Rattle.messages.specs.format.Alternatives.{orRight}
 use Rattle.messages.specs.format.Tests.{sized}
 use Rattle.messages.specs.Fields.{u14}
 use Rattle.messages.specs.Entries.{map-of}
@@ -27,7 +27,7 @@ use Rattle.messages.specs.Records.{Select, select}
 use Rattle.messages.specs.Maps.{BankSelect, WAVSelect, AnySelect, bankSelect, wavSelect, mapList, mapOffset, wavMap, wavMapOffset, bank-select, bank-length, bank-short, bank-only, wav-select, wav-length, wav-short, wav-only, select-length}
 use Rattle.messages.specs.Maps as maps
 use Rattle.messages.specs.Layouts.{form}
-use Rattle.messages.specs.Messages.{Message, make, Answer, given, plain-answer}
+use Rattle.messages.specs.Messages.{make, given, plain-answer}
 use Rattle.messages.specs.MessageOf.{head-select, fields-select, any-select}
 use Rattle.reading.specs.Places.{value-at}
 use Rattle.reading.specs.Found.{entries-select, Reads}

@@ -1,11 +1,9 @@
 -- Four letters, a file type and a URL, by place.
 -- Assumes nothing.
-use mathlib.Core.Path.{_≡_, refl, sym, ap, _∙_}
-use mathlib.Core.Bool.{Bool, true, false}
-use mathlib.Core.Option.{Option, none, some}
+use mathlib.Core.Path.{_≡_, refl, ap, _∙_}
+use mathlib.Core.Option.{some}
 use mathlib.Core.List.{List, [], _∷_}
 use Prim.Native.Nat.{ℕ, zero, suc, _+_, _<_, _≤_}
-use native.Mathlib.Nat.{add-zero}
 use native.Mathlib.Omega.{arith}
 use native.Mathlib.Numerals.{add-one}
 use lib.Dec.{eqb}
@@ -15,7 +13,7 @@ use borrow.Author.Tests.{lt-ltb, le-leb, lt-leb}
 use Rattle.util.specs.Groups.{Seven}
 use Rattle.util.proofs.Laws.Groups.{seven-drop}
 use Rattle.util.specs.Options.{only-if}
-use Rattle.messages.specs.format.Core.{Got, bad, got}
+use Rattle.messages.specs.format.Core.{bad, got}
 use Rattle.messages.specs.format.Sequence.{strip}
 use Rattle.messages.specs.format.Texts.{up-to-zero, read-text}
 use Rattle.read_file_reference.specs.Texts.{first-zero}
@@ -42,7 +40,7 @@ strip-at f i a b c d h =
 
 -- ---- the first 00
 
-pub zero-most : (l : List ℕ) → first-zero l ≤ length l
+zero-most : (l : List ℕ) → first-zero l ≤ length l
 zero-most [] = omega arith
 zero-most (zero ∷ l) = omega arith
 zero-most (suc b ∷ l) = omega (arith, zero-most l)
@@ -75,6 +73,10 @@ text-is [] s h = absurd (omega arith)
 text-is (zero ∷ l) s h = refl
 text-is (suc b ∷ l) s h = rw (lt-ltb _ _ (s .0), text-is l (s .1) (omega arith))
 
+-- a URL is as long as its end is far
+pub url-length : (l : List ℕ) → length (take (first-zero l) l) ≡ first-zero l
+url-length l = length-take-le (first-zero l) l (zero-most l)
+
 module _ (f : List ℕ) (s : Seven f) (i : ℕ) where
   pub url-none : (n : ℕ) → length f ≤ i + first-zero (drop i f) → read-text n (drop i f) ≡ bad
   url-none n h =
@@ -87,12 +89,9 @@ module _ (f : List ℕ) (s : Seven f) (i : ℕ) where
         text-is (drop i f) (seven-drop i f s) (omega (arith, length-drop i f))
         ∙ ap (got (take (first-zero (drop i f)) (drop i f))) (drop-drop (suc (first-zero (drop i f))) i f ∙ ap (λ (n : ℕ). drop n f) e)
 
-    text-length : length (take (first-zero (drop i f)) (drop i f)) ≡ first-zero (drop i f)
-    text-length = length-take-le (first-zero (drop i f)) (drop i f) (zero-most (drop i f))
-
     pub url-long : (n : ℕ) → n < first-zero (drop i f) → read-text n (drop i f) ≡ bad
-    url-long n g = rw (text-at, text-length, lt-leb _ _ g)
+    url-long n g = rw (text-at, url-length (drop i f), lt-leb _ _ g)
 
     pub url-at : (n : ℕ) → first-zero (drop i f) ≤ n
         → read-text n (drop i f) ≡ got (take (first-zero (drop i f)) (drop i f)) (drop (i + first-zero (drop i f) + 1) f)
-    url-at n g = rw (text-at, text-length, le-leb _ _ g)
+    url-at n g = rw (text-at, url-length (drop i f), le-leb _ _ g)

@@ -40,8 +40,9 @@ returns-4 c =
     let s = c .before .before .before .before .before .before .before in
     let a = sym (c .before .before .before .before .at .ensures) ∙ c .before .before .before .if2 .left in
     let b = sym (c .before .before .at2 .ensures) ∙ c .before .if3 .left in
+    let r = close-reads (now (s .args .f)) (s .pre) (c .before .before .before .before .before .if1 .left) a b in
     record {
-      says = λ d. rw (c .u14-at .ensures) (ap (plain-answer d head.FileReferenceClose) (sym (close-reads (now (s .args .f)) (s .pre) (c .before .before .before .before .before .if1 .left) a b)));
+      says = λ d. rw (c .u14-at .ensures) (ap (plain-answer d head.FileReferenceClose) (sym r));
       part = omega arith;
     }
 

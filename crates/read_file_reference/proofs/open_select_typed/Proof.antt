@@ -64,9 +64,11 @@ returns-3 c =
     let e = c .before .before .before .before .before .before .before .before .url-end .ensures in
     let j = c .before .before .before .before .before .before .before .before .url-end .result + 1 in
     let p = subst (λ (q : Picked). Picks (select-for t) q f j) (c .before .before .before .map .given .1) (c .before .before .before .before .before .map-for .ensures) in
+    let h = c .before .before .before .before .before .before .before .if1 .left in
+    let g = c .before .before .before .before .before .before .if2 .left in
+    let v = c .before .said .ensures in
     reads-none head.FileReferenceOpenSelect _
-    (found-unsaid f (s .pre .0) (s .pre .1) t (s .pre .2) (omega (arith, c .before .before .before .before .before .before .before .if1 .left)) (omega (arith, c .before .before .before .before .before .before .if2 .left)) j (omega arith) p
-    (λ x. c .if3 .taken (omega (arith, c .before .said .ensures))))
+    (found-unsaid f (s .pre .0) (s .pre .1) t (s .pre .2) (omega arith) (omega arith) j (omega arith) p (λ x. c .if3 .taken (omega arith)))
 
 u14-at-requires : tie.Need-u14-at-requires
 u14-at-requires c κs = search needs
@@ -89,8 +91,9 @@ returns-4 c =
     let g = c .before .before .before .before .before .before .before .if2 .left in
     let v = c .before .before .said .ensures in
     let w = c .before .if3 .left in
+    let l = c .before .before .before .before .before .before .before .before .before .url-end .result - 8 in
     rw (c .u14-at .ensures)
-    (found-reads f (s .pre .0) (s .pre .1) t (s .pre .2) (omega arith) (omega arith) j (omega arith) p (omega arith) (c .before .before .before .before .before .before .before .before .before .url-end .result - 8) (omega arith))
+    (found-reads f (s .pre .0) (s .pre .1) t (s .pre .2) (omega arith) (omega arith) j (omega arith) p (omega arith) l (omega arith))
 
 returns-5 : tie.Need-returns-5
 returns-5 c =
@@ -100,8 +103,9 @@ returns-5 c =
     let e = c .before .before .before .before .before .url-end .ensures in
     let j = c .before .before .before .before .before .url-end .result + 1 in
     let p = subst (λ (q : Picked). Picks (select-for t) q f j) (c .enum-told .given .1) (c .before .before .map-for .ensures) in
-    reads-none head.FileReferenceOpenSelect _
-    (found-nothing f (s .pre .0) (s .pre .1) t (s .pre .2) (omega (arith, c .before .before .before .before .if1 .left)) (omega (arith, c .before .before .before .if2 .left)) j (omega arith) p)
+    let h = c .before .before .before .before .if1 .left in
+    let g = c .before .before .before .if2 .left in
+    reads-none head.FileReferenceOpenSelect _ (found-nothing f (s .pre .0) (s .pre .1) t (s .pre .2) (omega arith) (omega arith) j (omega arith) p)
 
 pub open-select-typed-spec : {M : Type 1} → statement M
 open-select-typed-spec =

@@ -35,7 +35,10 @@ returns-3 c =
     let s = c .before .before .before .before .before in
     let f = now (s .args .f) in
     let e = c .before .before .before .url-end .ensures in
-    reads-none head.FileReferenceOpen _ (open-more f (s .pre .0) (s .pre .1) (s .args .file-type) (s .pre .2) (omega (arith, c .before .before .if1 .left)) (omega (arith, c .before .if2 .left)) (λ x. c .if3 .taken (omega arith)))
+    let h = c .before .before .if1 .left in
+    let g = c .before .if2 .left in
+    reads-none head.FileReferenceOpen _
+    (open-more f (s .pre .0) (s .pre .1) (s .args .file-type) (s .pre .2) (omega arith) (omega arith) (λ x. c .if3 .taken (omega arith)))
 
 said-requires : tie.Need-said-requires
 said-requires c κs = search needs
@@ -48,7 +51,12 @@ returns-4 c =
     let s = c .before .before .before .before .before .before .before in
     let f = now (s .args .f) in
     let e = c .before .before .before .before .before .url-end .ensures in
-    reads-none head.FileReferenceOpen _ (open-said f (s .pre .0) (s .pre .1) (s .args .file-type) (s .pre .2) (omega (arith, c .before .before .before .before .if1 .left)) (omega (arith, c .before .before .before .if2 .left)) (omega (arith, c .before .before .if3 .left)) (λ x. c .if4 .taken (omega (arith, c .before .said .ensures))))
+    let h = c .before .before .before .before .if1 .left in
+    let g = c .before .before .before .if2 .left in
+    let m = c .before .before .if3 .left in
+    let v = c .before .said .ensures in
+    reads-none head.FileReferenceOpen _
+    (open-said f (s .pre .0) (s .pre .1) (s .args .file-type) (s .pre .2) (omega arith) (omega arith) (omega arith) (λ x. c .if4 .taken (omega arith)))
 
 u14-at-requires : tie.Need-u14-at-requires
 u14-at-requires c κs = search needs
@@ -66,8 +74,9 @@ returns-5 c =
     let m = c .before .before .before .if3 .left in
     let v = c .before .before .said .ensures in
     let w = c .before .if4 .left in
+    let r = c .before .before .before .before .before .before .url-end .result in
     rw (c .u14-at .ensures)
-    (open-found f (s .pre .0) (s .pre .1) (s .args .file-type) (s .pre .2) (omega arith) (omega arith) (omega arith) (omega arith) (c .before .before .before .before .before .before .url-end .result - 8) (omega arith))
+    (open-found f (s .pre .0) (s .pre .1) (s .args .file-type) (s .pre .2) (omega arith) (omega arith) (omega arith) (omega arith) (r - 8) (omega arith))
 
 pub open-typed-spec : {M : Type 1} → statement M
 open-typed-spec =

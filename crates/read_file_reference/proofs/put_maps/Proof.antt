@@ -1,9 +1,9 @@
 -- `read_file_reference::put_maps` meets its contract: the maps of a part of the fields.
 -- Assumes nothing.
 use borrow.Author.Needs.{needs}
-use mathlib.Core.Path.{sym, ap, _∙_}
+use mathlib.Core.Path.{ap, _∙_}
 use mathlib.Core.List.{List}
-use Prim.Native.Nat.{ℕ, _+_}
+use Prim.Native.Nat.{ℕ}
 use native.Mathlib.Nat.{add-zero}
 use denote.Ref.{now}
 use Rattle.util.specs.Splice.{front}

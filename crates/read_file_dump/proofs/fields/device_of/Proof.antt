@@ -5,10 +5,10 @@ use Rattle.read_file_dump.proofs.fields.device_of.Statement.{statement}
 use Rattle.read_file_dump.proofs.fields.device_of.Tie as tie
 
 returns : tie.Need-returns
-returns c = rw (eq-eqb _ _ (c .if1 .taken))
+returns c = rw (eq-eqb (c .before .args .b) 127 (c .if1 .taken))
 
 returns-2 : tie.Need-returns-2
-returns-2 c = rw (ne-eqb _ _ (c .if1 .left))
+returns-2 c = rw (ne-eqb (c .before .args .b) 127 (c .if1 .left))
 
 pub device-of-spec : {M : Type 1} → statement M
 device-of-spec = tie.close (tie.spec returns returns-2)

@@ -10,6 +10,12 @@ add-u7-at c = search needs
 u7-at-requires : tie.Need-u7-at-requires
 u7-at-requires c κs = search needs
 
+is-source-requires : tie.Need-is-source-requires
+is-source-requires c κs = search needs
+
+is-target-requires : tie.Need-is-target-requires
+is-target-requires c κs = search needs
+
 u14-at-requires : tie.Need-u14-at-requires
 u14-at-requires c κs = search needs
 
@@ -31,12 +37,6 @@ add-u7-at-3 c = search needs
 u7-at-requires-3 : tie.Need-u7-at-requires-3
 u7-at-requires-3 c κs = search needs
 
-is-source-requires : tie.Need-is-source-requires
-is-source-requires c κs = search needs
-
-is-target-requires : tie.Need-is-target-requires
-is-target-requires c κs = search needs
-
 add-u7-at-4 : tie.Need-add-u7-at-4
 add-u7-at-4 c = search needs
 
@@ -45,7 +45,16 @@ u7-at-requires-4 c κs = search needs
 
 returns : tie.Need-returns
 returns c =
-    rw (c .u7-at4 .ensures, c .before .is-target .ensures, c .before .before .is-source .ensures, c .before .before .before .u7-at3 .ensures, c .before .before .before .before .u14-at2 .ensures, c .before .before .before .before .before .u7-at2 .ensures, c .before .before .before .before .before .before .u14-at .ensures, c .before .before .before .before .before .before .before .u7-at .ensures)
+    rw (
+      c .u7-at4 .ensures,
+      c .before .u7-at3 .ensures,
+      c .before .before .u14-at2 .ensures,
+      c .before .before .before .u7-at2 .ensures,
+      c .before .before .before .before .u14-at .ensures,
+      c .before .before .before .before .before .is-target .ensures,
+      c .before .before .before .before .before .before .is-source .ensures,
+      c .before .before .before .before .before .before .before .u7-at .ensures,
+    )
 
 pub map-at-spec : {M : Type 1} → statement M
 map-at-spec =
@@ -53,6 +62,8 @@ map-at-spec =
     (tie.spec
     add-u7-at
     u7-at-requires
+    is-source-requires
+    is-target-requires
     u14-at-requires
     add-u7-at-2
     u7-at-requires-2
@@ -60,8 +71,6 @@ map-at-spec =
     u14-at-requires-2
     add-u7-at-3
     u7-at-requires-3
-    is-source-requires
-    is-target-requires
     add-u7-at-4
     u7-at-requires-4
     returns)

@@ -56,7 +56,17 @@ u7-at-requires-5 c κs = search needs
 
 returns : tie.Need-returns
 returns c =
-    rw (toZ-ofZ {w = w16} {z = c .before .u14-to-i .result} (record { sfits = c .before .u14-to-i .ok }), c .u7-at5 .ensures, c .before .u14-to-i .ensures, c .before .before .u14-at2 .ensures, c .before .before .before .u7-at4 .ensures, c .before .before .before .before .u7-at3 .ensures, c .before .before .before .before .before .u7-at2 .ensures, c .before .before .before .before .before .before .u7-at .ensures, c .before .before .before .before .before .before .before .u14-at .ensures)
+    rw (
+      toZ-ofZ {w = w16} {z = c .before .u14-to-i .result} (record { sfits = c .before .u14-to-i .ok }),
+      c .u7-at5 .ensures,
+      c .before .u14-to-i .ensures,
+      c .before .before .u14-at2 .ensures,
+      c .before .before .before .u7-at4 .ensures,
+      c .before .before .before .before .u7-at3 .ensures,
+      c .before .before .before .before .before .u7-at2 .ensures,
+      c .before .before .before .before .before .before .u7-at .ensures,
+      c .before .before .before .before .before .before .before .u14-at .ensures,
+    )
 
 pub wav-at-spec : {M : Type 1} → statement M
 wav-at-spec =

@@ -27,7 +27,11 @@ returns-2 : tie.Need-returns-2
 returns-2 c =
     let s = c .before .before .before .before .before in
     let z = s .args in
-    rw (strip-at (now (z .f)) (z .i) (z .a) (z .b) (z .c) (z .d) (s .pre), eq-eqb _ _ (c .before .before .if1 .left ∙ c .before .before .before .at .ensures), ne-eqb _ _ (λ e. c .if2 .taken (e ∙ sym (c .before .at2 .ensures))))
+    rw (
+      strip-at (now (z .f)) (z .i) (z .a) (z .b) (z .c) (z .d) (s .pre),
+      eq-eqb _ _ (c .before .before .if1 .left ∙ c .before .before .before .at .ensures),
+      ne-eqb _ _ (λ e. c .if2 .taken (e ∙ sym (c .before .at2 .ensures))),
+    )
 
 add-at-2 : tie.Need-add-at-2
 add-at-2 c = search needs
@@ -39,7 +43,12 @@ returns-3 : tie.Need-returns-3
 returns-3 c =
     let s = c .before .before .before .before .before .before .before in
     let z = s .args in
-    rw (strip-at (now (z .f)) (z .i) (z .a) (z .b) (z .c) (z .d) (s .pre), eq-eqb _ _ (c .before .before .before .before .if1 .left ∙ c .before .before .before .before .before .at .ensures), eq-eqb _ _ (c .before .before .if2 .left ∙ c .before .before .before .at2 .ensures), ne-eqb _ _ (λ e. c .if3 .taken (e ∙ sym (c .before .at3 .ensures))))
+    rw (
+      strip-at (now (z .f)) (z .i) (z .a) (z .b) (z .c) (z .d) (s .pre),
+      eq-eqb _ _ (c .before .before .before .before .if1 .left ∙ c .before .before .before .before .before .at .ensures),
+      eq-eqb _ _ (c .before .before .if2 .left ∙ c .before .before .before .at2 .ensures),
+      ne-eqb _ _ (λ e. c .if3 .taken (e ∙ sym (c .before .at3 .ensures))),
+    )
 
 add-at-3 : tie.Need-add-at-3
 add-at-3 c = search needs
@@ -51,7 +60,13 @@ returns-4 : tie.Need-returns-4
 returns-4 c =
     let s = c .before .before .before .before .before .before .before .before in
     let z = s .args in
-    rw (strip-at (now (z .f)) (z .i) (z .a) (z .b) (z .c) (z .d) (s .pre), eq-eqb _ _ (c .before .before .before .before .before .if1 .left ∙ c .before .before .before .before .before .before .at .ensures), eq-eqb _ _ (c .before .before .before .if2 .left ∙ c .before .before .before .before .at2 .ensures), eq-eqb _ _ (c .before .if3 .left ∙ c .before .before .at3 .ensures), c .at4 .ensures)
+    rw (
+      strip-at (now (z .f)) (z .i) (z .a) (z .b) (z .c) (z .d) (s .pre),
+      eq-eqb _ _ (c .before .before .before .before .before .if1 .left ∙ c .before .before .before .before .before .before .at .ensures),
+      eq-eqb _ _ (c .before .before .before .if2 .left ∙ c .before .before .before .before .at2 .ensures),
+      eq-eqb _ _ (c .before .if3 .left ∙ c .before .before .at3 .ensures),
+      c .at4 .ensures,
+    )
 
 pub spells-spec : {M : Type 1} → statement M
 spells-spec =

@@ -22,11 +22,25 @@ spells-requires-3 c κs = search needs
 
 returns-3 : tie.Need-returns-3
 returns-3 c =
-    rw (← (c .before .before .before .before .before .spells .ensures), c .before .before .before .before .if1 .left, ← (c .before .before .before .spells2 .ensures), c .before .before .if2 .left, ← (c .before .spells3 .ensures), c .if3 .taken)
+    rw (
+      ← (c .before .before .before .before .before .spells .ensures),
+      c .before .before .before .before .if1 .left,
+      ← (c .before .before .before .spells2 .ensures),
+      c .before .before .if2 .left,
+      ← (c .before .spells3 .ensures),
+      c .if3 .taken,
+    )
 
 returns-4 : tie.Need-returns-4
 returns-4 c =
-    rw (← (c .before .before .before .before .before .spells .ensures), c .before .before .before .before .if1 .left, ← (c .before .before .before .spells2 .ensures), c .before .before .if2 .left, ← (c .before .spells3 .ensures), c .if3 .left)
+    rw (
+      ← (c .before .before .before .before .before .spells .ensures),
+      c .before .before .before .before .if1 .left,
+      ← (c .before .before .before .spells2 .ensures),
+      c .before .before .if2 .left,
+      ← (c .before .spells3 .ensures),
+      c .if3 .left,
+    )
 
 pub type-at-spec : {M : Type 1} → statement M
 type-at-spec =

@@ -28,8 +28,15 @@ returns : tie.Need-returns
 returns c =
     let s = c .before .before .before .before .before .before in
     let p = s .pre in
+    let e = loop-points-reads (now (s .args .f)) (p .0) (s .args .t) (p .1) (p .2) in
     record {
-      says = λ d. rw (c .u35-at2 .ensures, c .before .u35-at .ensures, c .before .before .loop-number .ensures, c .before .before .before .u14-at2 .ensures, c .before .before .before .before .u14-at .ensures) (ap (plain-answer d head.ExtendedLoopPointTransmission) (sym (loop-points-reads (now (s .args .f)) (p .0) _ (p .1) (p .2))));
+      says = λ d. rw (
+        c .u35-at2 .ensures,
+        c .before .u35-at .ensures,
+        c .before .before .loop-number .ensures,
+        c .before .before .before .u14-at2 .ensures,
+        c .before .before .before .before .u14-at .ensures,
+      ) (ap (plain-answer d head.ExtendedLoopPointTransmission) (sym e));
       part = omega (arith, p .1);
     }
 
