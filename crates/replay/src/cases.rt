@@ -3,13 +3,11 @@ use super::floats;
 use super::tries;
 use messages::system_exclusive::DeviceID;
 use messages::system_exclusive::UniversalNonRealTimeMsg;
+use numbers::Made;
 use vectors::cases::Extents;
 use vectors::fit;
 use vectors::fit::FitU32;
 use vectors::little;
-use vectors::message;
-use vectors::message::Made;
-use vectors::message::MadeDevice;
 ghost use Prim.Native.Nat.{_≤_};
 ghost use lib.ListN.{length};
 ghost use Rattle.vectors.specs.Extents.{Inside};
@@ -101,24 +99,22 @@ fn replay_message(
 fn replay_write(s: &[u8], e: Extents, entries: &mut [u64], out: &mut [u8]) -> Verdict
     requires { ⌜ Inside e (length (now s)) ⌝ }
 {
-    let numbers = e.numbers;
+    let span = e.numbers;
+    let n = span.count;
     let part = e.entries;
     let start = part.start;
     let count = part.count;
     if !is_write(e) {
         return Verdict::Malformed;
     }
-    if 16 < numbers.count {
+    if 16 < n {
         return Verdict::Malformed;
     }
     if entries.len() < count {
         return Verdict::Malformed;
     }
     let v = numbers_of(s, e);
-    let MadeDevice::Device(device) = message::device(v[1]) else {
-        return Verdict::Malformed;
-    };
-    let Made::Message(m) = message::message(&v, numbers.count) else {
+    let Made::Message { device, m } = numbers::from_numbers(&v[0..n]) else {
         return Verdict::Malformed;
     };
     little::read_numbers(s, start, &mut entries[0..count]);

@@ -1,34 +1,22 @@
--- Laws of the proofs: -1 less a number of the lower half, a store of one more number, and a part that is whole.
+-- Laws of the proofs: a store of one more number, and parts that are whole.
 -- Assumes nothing.
-use mathlib.Core.Path.{_≡_, refl, sym, ap, _∙_, subst}
+use mathlib.Core.Path.{_≡_, refl, _∙_, subst}
 use mathlib.Core.List.{List}
-use Prim.Native.Nat.{ℕ, zero, suc, _+_, _^_, _<_}
+use Prim.Native.Nat.{ℕ, _+_, _<_}
 use native.Mathlib.Omega.{arith}
-use lib.IntN.{ℤ, pos, negsuc, _-ℤ_}
 use lib.ListN.{length, getD, set}
 use lib.Seq.{getD-set-same, getD-set-other}
-use mir.Syntax.{Width}
-use mir.Val.{SFits, hbits, toZ, ofZ}
-use mir.Facts.{toZ-ofZ, toZ-pos}
 use borrow.Author.Count.{below-more}
-use Rattle.vectors.specs.Extents.{SpanIn, PartIn}
+use Rattle.vectors.specs.Extents.{SpanIn, PartIn, AskedIn, AskedPartIn, AnswerIn, AnswerPartIn, Inside, Chained, case-of}
+use Rattle.vectors.specs.declared.cases.Asked.{Asked}
+use Rattle.vectors.specs.declared.cases.AskedPart.{AskedPart}
+use Rattle.vectors.specs.declared.cases.AskedPart.the-variants as asked
+use Rattle.vectors.specs.declared.cases.Answer.{Answer}
+use Rattle.vectors.specs.declared.cases.AnswerPart.{AnswerPart}
+use Rattle.vectors.specs.declared.cases.AnswerPart.the-variants as answer
 use Rattle.vectors.specs.declared.cases.Span.{Span}
 use Rattle.vectors.specs.declared.cases.Part.{Part}
 use Rattle.vectors.specs.declared.cases.Part.the-variants.{Whole}
-
-less-one : (n : ℕ) → negsuc 0 -ℤ pos n ≡ negsuc n
-less-one zero = refl
-less-one (suc n) = let e : 0 + n ≡ n = omega arith in ap (λ (k : ℕ). negsuc (suc k)) e
-
-module _ (w : Width) (n : ℕ) (h : n < 2 ^ hbits w) where
-  below-is : negsuc 0 -ℤ toZ w n ≡ negsuc n
-  below-is = ap (λ (y : ℤ). negsuc 0 -ℤ y) (toZ-pos w h) ∙ less-one n
-
-  pub below-fits : SFits w (negsuc 0 -ℤ toZ w n)
-  below-fits = subst (SFits w) (sym below-is) (record { sfits = h })
-
-  pub below-read : toZ w (ofZ w (negsuc 0 -ℤ toZ w n)) ≡ negsuc n
-  below-read = toZ-ofZ below-fits ∙ below-is
 
 -- what holds of each number below i, and of the one that is stored at i, holds of each below i + 1
 pub store-more : (f : ℕ → ℕ) (xs : List ℕ) (i v : ℕ) → i < length xs → v ≡ f i → ((k : ℕ) → k < i → getD xs k 0 ≡ f k)
@@ -41,3 +29,32 @@ store-more f xs i v h e all =
 -- a part that is whole is its span
 pub whole-in : {r : Part} {p : Span} {size start n : ℕ} → r ≡ Whole p → PartIn r size start n → (p .start ≡ start) × SpanIn p size n
 whole-in {r} {p} {size} {start} {n} e h = subst (λ (x : Part). PartIn x size start n) e h
+
+pub asked-in : {r : AskedPart} {a : Asked} {at n : ℕ} → r ≡ asked.Whole a → AskedPartIn r at n → AskedIn a at n
+asked-in {r} {a} {at} {n} e h = subst (λ (x : AskedPart). AskedPartIn x at n) e h
+
+pub answer-in : {r : AnswerPart} {b : Answer} {at n : ℕ} → r ≡ answer.Whole b → AnswerPartIn r at n → AnswerIn b at n
+answer-in {r} {b} {at} {n} e h = subst (λ (x : AnswerPart). AnswerPartIn x at n) e h
+
+-- what is asked, and its answer where that ends, are a case
+pub both-in : {a : Asked} {b : Answer} {at n : ℕ} → AskedIn a at n → AnswerIn b (a .entries .next) n → Chained (case-of a b) at × Inside (case-of a b) n
+both-in p q = (
+  record {
+    numbers-start = p .numbers-start;
+    text-start = p .text-start;
+    entries-start = p .entries-start;
+    out-numbers-start = q .out-numbers-start;
+    bytes-start = q .bytes-start;
+    out-entries-start = q .out-entries-start;
+    ends = refl;
+  },
+  record {
+    numbers-in = p .numbers-in;
+    text-in = p .text-in;
+    entries-in = p .entries-in;
+    out-numbers-in = q .out-numbers-in;
+    bytes-in = q .bytes-in;
+    out-entries-in = q .out-entries-in;
+    end-in = q .out-entries-in .within;
+  },
+)

@@ -4,6 +4,12 @@ use Prim.Native.Nat.{ℕ, _+_, _*_, _≤_}
 use Rattle.vectors.specs.declared.cases.Span.{Span}
 use Rattle.vectors.specs.declared.cases.Part.{Part}
 use Rattle.vectors.specs.declared.cases.Part.the-variants as part
+use Rattle.vectors.specs.declared.cases.Asked.{Asked}
+use Rattle.vectors.specs.declared.cases.AskedPart.{AskedPart}
+use Rattle.vectors.specs.declared.cases.AskedPart.the-variants as asked
+use Rattle.vectors.specs.declared.cases.Answer.{Answer}
+use Rattle.vectors.specs.declared.cases.AnswerPart.{AnswerPart}
+use Rattle.vectors.specs.declared.cases.AnswerPart.the-variants as answer
 use Rattle.vectors.specs.declared.cases.Extents.{Extents}
 use Rattle.vectors.specs.declared.cases.Case.{Case}
 use Rattle.vectors.specs.declared.cases.Case.the-variants as case
@@ -16,6 +22,48 @@ pub record SpanIn (p : Span) (size n : ℕ) : Type 0 where
 abbrev pub PartIn : Part → ℕ → ℕ → ℕ → Type 0
 PartIn (part.Whole p) size start n = (p .start ≡ start) × SpanIn p size n
 PartIn part.Cut size start n = Unit {0}
+
+-- each part of what is asked starts behind its count, where the part before it ends, and is within n bytes
+pub record AskedIn (a : Asked) (at n : ℕ) : Type 0 where
+  pub numbers-start : a .numbers .start ≡ at + 1 + 1
+  pub text-start : a .text .start ≡ a .numbers .next + 4
+  pub entries-start : a .entries .start ≡ a .text .next + 2
+  pub numbers-in : SpanIn (a .numbers) 8 n
+  pub text-in : SpanIn (a .text) 1 n
+  pub entries-in : SpanIn (a .entries) 8 n
+
+abbrev pub AskedPartIn : AskedPart → ℕ → ℕ → Type 0
+AskedPartIn (asked.Whole a) at n = AskedIn a at n
+AskedPartIn asked.Cut at n = Unit {0}
+
+-- the same of an answer
+pub record AnswerIn (b : Answer) (at n : ℕ) : Type 0 where
+  pub out-numbers-start : b .«out_numbers» .start ≡ at + 9 + 1
+  pub bytes-start : b .bytes .start ≡ b .«out_numbers» .next + 4
+  pub out-entries-start : b .«out_entries» .start ≡ b .bytes .next + 4
+  pub out-numbers-in : SpanIn (b .«out_numbers») 8 n
+  pub bytes-in : SpanIn (b .bytes) 1 n
+  pub out-entries-in : SpanIn (b .«out_entries») 8 n
+
+abbrev pub AnswerPartIn : AnswerPart → ℕ → ℕ → Type 0
+AnswerPartIn (answer.Whole b) at n = AnswerIn b at n
+AnswerPartIn answer.Cut at n = Unit {0}
+
+-- the case of what is asked and its answer
+abbrev pub case-of : Asked → Answer → Extents
+case-of a b =
+    record {
+      op = a .op;
+      numbers = a .numbers;
+      text = a .text;
+      entries = a .entries;
+      refusal = b .refusal;
+      value = b .value;
+      «out_numbers» = b .«out_numbers»;
+      bytes = b .bytes;
+      «out_entries» = b .«out_entries»;
+      end = b .«out_entries» .next;
+    }
 
 -- each part of a case is within n bytes
 pub record Inside (e : Extents) (n : ℕ) : Type 0 where

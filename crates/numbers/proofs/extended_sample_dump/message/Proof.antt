@@ -1,0 +1,73 @@
+-- `numbers::extended_sample_dump::message` meets its contract: each arm is that of its head code.
+-- Assumes nothing.
+use borrow.Author.Tests.{ne-eqb}
+use borrow.Author.Needs.{needs}
+use Rattle.numbers.proofs.extended_sample_dump.message.Statement.{statement}
+use Rattle.numbers.proofs.extended_sample_dump.message.Tie as tie
+
+transmission-requires : tie.Need-transmission-requires
+transmission-requires c κs = search needs
+
+points-request-requires : tie.Need-points-request-requires
+points-request-requires c κs = search needs
+
+name-requires : tie.Need-name-requires
+name-requires c κs = search needs
+
+name-request-requires : tie.Need-name-request-requires
+name-request-requires c κs = search needs
+
+header-requires : tie.Need-header-requires
+header-requires c κs = search needs
+
+extended-transmission-requires : tie.Need-extended-transmission-requires
+extended-transmission-requires c κs = search needs
+
+extended-points-request-requires : tie.Need-extended-points-request-requires
+extended-points-request-requires c κs = search needs
+
+returns : tie.Need-returns
+returns c = rw (c .before .match .keys1) (c .transmission .ensures)
+
+returns-2 : tie.Need-returns-2
+returns-2 c = rw (c .before .match .keys2) (c .points-request .ensures)
+
+returns-3 : tie.Need-returns-3
+returns-3 c = rw (c .before .match .keys3) (c .name .ensures)
+
+returns-4 : tie.Need-returns-4
+returns-4 c = rw (c .before .match .keys4) (c .name-request .ensures)
+
+returns-5 : tie.Need-returns-5
+returns-5 c = rw (c .before .match .keys5) (c .header .ensures)
+
+returns-6 : tie.Need-returns-6
+returns-6 c = rw (c .before .match .keys6) (c .extended-transmission .ensures)
+
+returns-7 : tie.Need-returns-7
+returns-7 c = rw (c .before .match .keys7) (c .extended-points-request .ensures)
+
+returns-8 : tie.Need-returns-8
+returns-8 c =
+    let r = c .match .rest in
+    rw (ne-eqb _ _ (r .0 .0 .0 .0 .0 .0 .1), ne-eqb _ _ (r .0 .0 .0 .0 .0 .1), ne-eqb _ _ (r .0 .0 .0 .0 .1), ne-eqb _ _ (r .0 .0 .0 .1), ne-eqb _ _ (r .0 .0 .1), ne-eqb _ _ (r .0 .1), ne-eqb _ _ (r .1))
+
+pub message-spec : {M : Type 1} → statement M
+message-spec =
+    tie.close
+    (tie.spec
+    transmission-requires
+    points-request-requires
+    name-requires
+    name-request-requires
+    header-requires
+    extended-transmission-requires
+    extended-points-request-requires
+    returns
+    returns-2
+    returns-3
+    returns-4
+    returns-5
+    returns-6
+    returns-7
+    returns-8)

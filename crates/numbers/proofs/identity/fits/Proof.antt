@@ -1,0 +1,26 @@
+-- `numbers::identity::fits` meets its contract: each arm is that of its head code.
+-- Assumes nothing.
+use borrow.Author.Tests.{ne-eqb}
+use borrow.Author.Needs.{needs}
+use Rattle.numbers.proofs.identity.fits.Statement.{statement}
+use Rattle.numbers.proofs.identity.fits.Tie as tie
+
+fits-0-requires : tie.Need-fits-0-requires
+fits-0-requires c κs = search needs
+
+reply-fits-requires : tie.Need-reply-fits-requires
+reply-fits-requires c κs = search needs
+
+returns : tie.Need-returns
+returns c = rw (c .before .match .keys1) (c .fits-0 .ensures)
+
+returns-2 : tie.Need-returns-2
+returns-2 c = rw (c .before .match .keys2) (c .reply-fits .ensures)
+
+returns-3 : tie.Need-returns-3
+returns-3 c =
+    let r = c .match .rest in
+    rw (ne-eqb _ _ (r .0 .1), ne-eqb _ _ (r .1))
+
+pub fits-spec : {M : Type 1} → statement M
+fits-spec = tie.close (tie.spec fits-0-requires reply-fits-requires returns returns-2 returns-3)

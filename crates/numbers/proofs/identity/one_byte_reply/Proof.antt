@@ -1,0 +1,17 @@
+-- `numbers::identity::one_byte_reply` meets its contract: each field is the value of its number.
+-- Assumes nothing.
+use borrow.Author.Needs.{needs}
+use Rattle.numbers.proofs.identity.one_byte_reply.Statement.{statement}
+use Rattle.numbers.proofs.identity.one_byte_reply.Tie as tie
+
+u8-at-requires : tie.Need-u8-at-requires
+u8-at-requires c κs = search needs
+
+reply-requires : tie.Need-reply-requires
+reply-requires c κs = search needs
+
+returns : tie.Need-returns
+returns c = rw (c .reply .ensures, c .before .u8-at .ensures)
+
+pub one-byte-reply-spec : {M : Type 1} → statement M
+one-byte-reply-spec = tie.close (tie.spec u8-at-requires reply-requires returns)

@@ -1,0 +1,17 @@
+-- `numbers::tuning::bank_keys` meets its contract: each field is the value of its number.
+-- Assumes nothing.
+use borrow.Author.Needs.{needs}
+use Rattle.numbers.proofs.tuning.bank_keys.Statement.{statement}
+use Rattle.numbers.proofs.tuning.bank_keys.Tie as tie
+
+u8-at-requires : tie.Need-u8-at-requires
+u8-at-requires c κs = search needs
+
+u8-at-requires-2 : tie.Need-u8-at-requires-2
+u8-at-requires-2 c κs = search needs
+
+returns : tie.Need-returns
+returns c = rw (c .before .u8-at .ensures, c .u8-at2 .ensures)
+
+pub bank-keys-spec : {M : Type 1} → statement M
+bank-keys-spec = tie.close (tie.spec u8-at-requires u8-at-requires-2 returns)
