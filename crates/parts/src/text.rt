@@ -2,7 +2,7 @@
 use util::bytes;
 ghost use mathlib.Core.Path.{_≡_};
 ghost use Prim.Native.Nat.{_+_, _≤_, min};
-ghost use lib.ListN.{length, getD};
+ghost use lib.ListN.{length};
 ghost use Rattle.util.specs.Splice.{front};
 ghost use Rattle.messages.specs.format.Core.{written};
 ghost use Rattle.messages.specs.Fields.{name-of-16, sample-name, url};
@@ -23,15 +23,16 @@ fn held(b: u8) -> u8
     if b <= 127 { b } else { 127 }
 }
 
-// The byte at i, or f past the end, held to 127.
-fn held_at(s: &[u8], i: usize, f: u8) -> u8
-    ensures { λ r. ⌜ r ≡ low (getD (now (s .entry)) i f) ⌝ }
+// Writes the bytes of a text, each held to 127.
+fn put_held(out: &mut [u8], s: &[u8])
+    requires { ⌜ length (now s) ≤ length (now out) ⌝ }
+    ensures { λ _. ⌜ now (out .exit) ≡ front (fill-to 0 (length (now (s .entry))) (now (s .entry))) (now (out .entry)) ⌝ }
 {
-    if i < s.len() {
+    let mut i = 0;
+    while i < s.len() {
         let b = s[i];
-        held(b)
-    } else {
-        held(f)
+        out[i] = held(b);
+        i += 1;
     }
 }
 
@@ -40,11 +41,10 @@ fn put_filled(out: &mut [u8], s: &[u8], n: usize, f: u8)
     requires { ⌜ n ≤ length (now out) ⌝ }
     ensures { λ _. ⌜ now (out .exit) ≡ front (fill-to f n (now (s .entry))) (now (out .entry)) ⌝ }
 {
-    let mut i = 0;
-    while i < n {
-        out[i] = held_at(s, i, f);
-        i += 1;
-    }
+    let k = at_most(s.len(), n);
+    put_held(out, &s[..k]);
+    let b = held(f);
+    bytes::fill(&mut out[k..], n - k, b);
 }
 
 // Writes 120 sample bytes, filled with 00.

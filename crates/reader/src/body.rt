@@ -1,5 +1,4 @@
 // What stands between F0 and F7: device, head, fields and checksum.
-use crate::fields;
 use messages::file_reference::Kind;
 use messages::head::Head;
 use messages::system_exclusive::DeviceID;
@@ -51,7 +50,7 @@ fn body_part(mid: &[u8], h: Head, n: usize, e: usize) -> Body
     ensures { λ r. ⌜ Tells r (now (mid .entry)) (plain-answer (device-at (now (mid .entry))) h (form h .read (take (e - n) (drop n (now (mid .entry)))))) ⌝ }
 {
     let device = device_of(at(mid, 1));
-    match fields::fields_of(h, &mid[n..e]) {
+    match read_fields::fields_of(h, &mid[n..e]) {
         Found::Is {
             m,
             from,

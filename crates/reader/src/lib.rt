@@ -1,6 +1,5 @@
 // Reads a frame: what it is, without writing; then its file data and entries into lent space.
 pub mod body;
-pub mod fields;
 pub mod lent;
 
 use body::Body;

@@ -7,3 +7,4 @@ pub mod Sums
 pub mod Whole
 pub mod Lengths
 pub mod Answers
+pub mod Handshakes

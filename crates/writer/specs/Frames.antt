@@ -2,7 +2,8 @@
 use mathlib.Core.Bool.{Bool, true, false}
 use mathlib.Core.Option.{Option}
 use mathlib.Core.List.{List, [], _∷_, _++_}
-use Prim.Native.Nat.{ℕ}
+use mathlib.Core.Path.{_≡_}
+use Prim.Native.Nat.{ℕ, _≤_}
 use lib.ListN.{length}
 use Rattle.util.specs.Checksum.{checksum}
 use Rattle.util.specs.declared.refusal.Refusal.{Refusal}
@@ -14,8 +15,10 @@ use Rattle.messages.specs.Fields.{device-byte, high, type-bytes, most-name}
 use Rattle.messages.specs.Layouts.{summed}
 use Rattle.messages.specs.Contents.{too-large, longer}
 use Rattle.messages.specs.MessageOf.{headOf}
-use Rattle.tables.specs.Fronts.{frontOf}
+use Rattle.fronts.specs.Fronts.{frontOf}
+use Rattle.fronts.specs.Sizes.{front-size}
 use Rattle.parts.specs.Parts.{partOf}
+use Rattle.writer.specs.declared.Sizes.{Sizes}
 
 -- the checksum of bytes, where there is one
 abbrev pub sum-of : Bool → List ℕ → List ℕ
@@ -37,3 +40,11 @@ header-contents t n name = least (high (type-bytes t)) (least (too-large n) (lea
 -- the refusal of a file request, as `contents` has it
 abbrev pub request-contents : FileType → List ℕ → Option Refusal
 request-contents t name = least (high (type-bytes t)) (least (longer most-name name) (high name))
+
+-- the sizes of the frame of a message whose contents are admitted
+pub record SizesOf (s : Sizes) (m : UniversalNonRealTimeMsg) (text entries : List ℕ) : Type 0 where
+  pub front-is : s .front ≡ front-size m
+  pub part-is : s .part ≡ length (partOf m text entries)
+  pub sum-is : s .sum ≡ summed (headOf m)
+  pub front-few : s .front ≤ 32
+  pub part-few : s .part ≤ 2048

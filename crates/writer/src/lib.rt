@@ -1,6 +1,8 @@
 // Writes a message's frame at a place of a longer output.
+pub mod handshake;
 pub mod refusals;
 
+use crate::handshake::Handshake;
 use messages::file_dump::FileDumpMsg;
 use messages::sample_dump::SampleDumpMsg;
 use messages::system_exclusive::DeviceID;
@@ -11,15 +13,16 @@ ghost use mathlib.Core.Option.{none};
 ghost use mathlib.Core.List.{[], _++_};
 ghost use Prim.Native.Nat.{_+_, _-_, _≤_, _<_};
 ghost use lib.ListN.{length, take, drop};
-ghost use Rattle.util.specs.Fields.{encode, AtMost5};
 ghost use Rattle.util.specs.Splice.{front, splice};
 ghost use Rattle.messages.specs.Layouts.{summed};
 ghost use Rattle.messages.specs.Messages.{given, writeOf};
 ghost use Rattle.messages.specs.Contents.{contents};
 ghost use Rattle.messages.specs.MessageOf.{headOf, fieldsOf, messageOf, head-sample, head-file};
+ghost use Rattle.fronts.specs.Fronts.{frontOf};
+ghost use Rattle.fronts.specs.Sizes.{front-size};
 ghost use Rattle.parts.specs.Parts.{partOf};
 ghost use Rattle.writer.specs.Write.{written-at, output-after, length-at};
-ghost use Rattle.writer.specs.Frames.{sum-of, wire, frame-of};
+ghost use Rattle.writer.specs.Frames.{sum-of, wire, frame-of, SizesOf};
 
 // What writing answers: the frame's length, or a refusal.
 pub enum Written {
@@ -112,28 +115,56 @@ fn put_sum(out: &mut [u8], sum: bool, end: usize) -> usize
     }
 }
 
-// Writes a frame: F0, the table's fields, the message's part of so many bytes, the checksum, F7.
+// Writes a frame: F0, the message's front and its part of so many bytes each, the checksum, F7.
 fn put_frame(
     out: &mut [u8],
-    widths: [u8; 16],
-    values: [u64; 16],
+    d: u64,
     m: UniversalNonRealTimeMsg,
     text: &[u8],
     entries: &[u64],
+    size: usize,
     part: usize,
     sum: bool,
 )
-    requires { ⌜ AtMost5 widths × (contents (headOf m) (fieldsOf m (now text) (now entries)) ≡ none)
+    requires { ⌜ (contents (headOf m) (fieldsOf m (now text) (now entries)) ≡ none)
+        × (size ≡ front-size m)
         × (part ≡ length (partOf m (now text) (now entries)))
-        × (length (wire sum (encode widths values ++ partOf m (now text) (now entries))) ≤ length (now out)) ⌝ }
-    ensures { λ _. ⌜ now (out .exit) ≡ front (wire sum (encode widths values ++ partOf m (now (text .entry)) (now (entries .entry)))) (now (out .entry)) ⌝ }
+        × (length (wire sum (frontOf d m (length (now text)) (length (now entries)) ++ partOf m (now text) (now entries))) ≤ length (now out)) ⌝ }
+    ensures { λ _. ⌜ now (out .exit) ≡ front (wire sum (frontOf d m (length (now (text .entry))) (length (now (entries .entry))) ++ partOf m (now (text .entry)) (now (entries .entry)))) (now (out .entry)) ⌝ }
 {
     out[0] = 0xF0;
-    let a = 1 + util::fields::put_fields(&mut out[1..], widths, values);
+    fronts::put_front(&mut out[1..], d, m, text.len(), entries.len());
+    let a = 1 + size;
     parts::part::put_part(&mut out[a..], m, text, entries);
     let e = a + part;
     let z = e + put_sum(out, sum, e);
     out[z] = 0xF7;
+}
+
+// What a frame is made of beside F0 and F7: the bytes of its front and of its part, and whether there is a checksum.
+struct Sizes {
+    front: usize,
+    part: usize,
+    sum: bool,
+}
+
+// The sizes of the frame of a message whose contents are admitted.
+fn sizes_of(m: UniversalNonRealTimeMsg, text: &[u8], entries: &[u64]) -> Sizes
+    requires { ⌜ contents (headOf m) (fieldsOf m (now text) (now entries)) ≡ none ⌝ }
+    ensures { λ r. ⌜ SizesOf r m (now (text .entry)) (now (entries .entry)) ⌝ }
+{
+    let part = parts::size::part_size(m, text.len(), entries.len());
+    let sum = has_sum(m);
+    let front = fronts::front_size(m);
+    Sizes { front, part, sum }
+}
+
+// The length of a frame of such sizes.
+fn total_of(s: Sizes) -> usize
+    requires { ⌜ (s .front ≤ 32) × (s .part ≤ 2048) ⌝ }
+    ensures { λ r. ⌜ r ≡ 2 + s .front + s .part + length (sum-of (s .sum) []) ⌝ }
+{
+    2 + s.front + s.part + sum_size(s.sum)
 }
 
 // The length of the frame of a message whose contents are admitted.
@@ -146,16 +177,8 @@ fn admitted_length(
     requires { ⌜ contents (headOf m) (fieldsOf m (now text) (now entries)) ≡ none ⌝ }
     ensures { λ r. ⌜ r ≡ length (frame-of device m (now (text .entry)) (now (entries .entry))) ⌝ }
 {
-    let f = tables::table(
-        tables::values::device_byte(device),
-        m,
-        text.len(),
-        entries.len(),
-    );
-    let ws = f.widths;
-    let part = parts::size::part_size(m, text.len(), entries.len());
-    let sum = has_sum(m);
-    2 + tables::total_of(ws) + part + sum_size(sum)
+    let s = sizes_of(m, text, entries);
+    total_of(s)
 }
 
 // Writes the frame of a message whose contents are admitted, where there is room.
@@ -165,22 +188,15 @@ fn put_admitted(
     m: UniversalNonRealTimeMsg,
     text: &[u8],
     entries: &[u64],
+    s: Sizes,
 )
     requires { ⌜ (contents (headOf m) (fieldsOf m (now text) (now entries)) ≡ none)
+        × SizesOf s m (now text) (now entries)
         × (length (frame-of device m (now text) (now entries)) ≤ length (now out)) ⌝ }
     ensures { λ _. ⌜ now (out .exit) ≡ front (frame-of device m (now (text .entry)) (now (entries .entry))) (now (out .entry)) ⌝ }
 {
-    let f = tables::table(
-        tables::values::device_byte(device),
-        m,
-        text.len(),
-        entries.len(),
-    );
-    let ws = f.widths;
-    let vs = f.values;
-    let part = parts::size::part_size(m, text.len(), entries.len());
-    let sum = has_sum(m);
-    put_frame(out, ws, vs, m, text, entries, part, sum);
+    let d = fronts::values::device_byte(device);
+    put_frame(out, d, m, text, entries, s.front, s.part, s.sum);
 }
 
 // Writes the frame of a message whose contents are admitted at a place of the output, or refuses it for want of space.
@@ -196,14 +212,15 @@ fn write_admitted(
     ensures { λ r. ⌜ (r ≡ written-at (given (frame-of device m (now (text .entry)) (now (entries .entry)))) (length (now (out .entry))) place)
         × (now (out .exit) ≡ output-after (given (frame-of device m (now (text .entry)) (now (entries .entry)))) (now (out .entry)) place) ⌝ }
 {
-    let n = admitted_length(device, m, text, entries);
+    let s = sizes_of(m, text, entries);
+    let n = total_of(s);
     if out.len() < place {
         return Written::Refused(Refusal::Space);
     }
     if out.len() - place < n {
         return Written::Refused(Refusal::Space);
     }
-    put_admitted(&mut out[place..], device, m, text, entries);
+    put_admitted(&mut out[place..], device, m, text, entries, s);
     Written::Frame(n)
 }
 
@@ -223,8 +240,8 @@ pub fn frame_length(
     }
 }
 
-// Writes a message's frame at a place of the output.
-pub fn write(
+// Tests a message's contents, and writes its frame at a place of the output.
+fn write_message(
     device: DeviceID,
     m: UniversalNonRealTimeMsg,
     text: &[u8],
@@ -239,5 +256,24 @@ pub fn write(
     match told {
         Contents::Admitted => write_admitted(device, m, text, entries, out, place),
         Contents::Refused(r) => Written::Refused(r),
+    }
+}
+
+// Writes a message's frame at a place of the output.
+pub fn write(
+    device: DeviceID,
+    m: UniversalNonRealTimeMsg,
+    text: &[u8],
+    entries: &[u64],
+    out: &mut [u8],
+    place: usize,
+) -> Written
+    ensures { λ r. ⌜ (r ≡ written-at (writeOf (messageOf device m (now (text .entry)) (now (entries .entry)))) (length (now (out .entry))) place)
+        × (now (out .exit) ≡ output-after (writeOf (messageOf device m (now (text .entry)) (now (entries .entry)))) (now (out .entry)) place) ⌝ }
+{
+    let h = handshake::handshake_of(m);
+    match h {
+        Handshake::Of(a, n) => handshake::write_handshake(device, a, n, out, place),
+        Handshake::Other => write_message(device, m, text, entries, out, place),
     }
 }

@@ -3,10 +3,10 @@
 use mathlib.Core.Path.{_≡_, refl, ap, ap₂, _∙_}
 use mathlib.Core.Option.{none}
 use mathlib.Core.List.{List, [], _∷_, _++_}
-use Prim.Native.Nat.{ℕ, zero, suc, _<_, min}
+use Prim.Native.Nat.{ℕ, zero, suc, _-_, _<_, min}
 use native.Mathlib.Nat.{le-of-suc-le-suc, not-suc-le-zero}
 use native.Mathlib.Omega.{arith}
-use lib.ListN.{length, take, getD, length-take}
+use lib.ListN.{length, take, getD, replicate, length-take}
 use Rattle.messages.specs.format.Core.{written}
 use Rattle.messages.specs.format.Lists.{all-settle, all-bytes, all-length, filled}
 use Rattle.messages.specs.Fields.{u7, sample-name, url}
@@ -24,6 +24,22 @@ getD-fill f (suc n) [] zero h = refl
 getD-fill f (suc n) [] (suc i) h = getD-fill f n [] i (le-of-suc-le-suc h)
 getD-fill f (suc n) (x ∷ xs) zero h = refl
 getD-fill f (suc n) (x ∷ xs) (suc i) h = getD-fill f n xs i (le-of-suc-le-suc h)
+
+-- what is there, and after it what is filled
+pub fill-split : (f n k : ℕ) (xs : List ℕ) → k ≡ min (length xs) n
+    → fill-to f n xs ≡ fill-to 0 (length (take k xs)) (take k xs) ++ replicate (n - k) (low f)
+fill-split f zero k xs e =
+    let z : k ≡ 0 = omega arith in
+    rw z
+fill-split f (suc n) k [] e =
+    let z : k ≡ 0 = omega arith in
+    let a : n - 0 ≡ n = omega arith in
+    let b : suc n - 0 ≡ suc n = omega arith in
+    rw (z, fill-split f n 0 [] (omega arith), a, b)
+fill-split f (suc n) zero (x ∷ xs) e = absurd (omega arith)
+fill-split f (suc n) (suc k) (x ∷ xs) e =
+    let z : suc n - suc k ≡ n - k = omega arith in
+    rw (z, fill-split f n k xs (omega arith))
 
 -- n bytes, filled with f
 pub filled-is : (n f : ℕ) (fn : (i : ℕ) → u7 .refuses f ≡ none) (i k : ℕ) (xs : List ℕ)

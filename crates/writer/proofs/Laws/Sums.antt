@@ -1,8 +1,8 @@
 -- Which messages end in a checksum, and the checksum as a part of a frame.
 -- Assumes nothing.
-use mathlib.Core.Path.{_≡_, refl, ap, _∙_}
+use mathlib.Core.Path.{_≡_, refl, ap, ap₂, _∙_}
 use mathlib.Core.Bool.{Bool, true, false}
-use mathlib.Core.List.{List, _∷_, _++_}
+use mathlib.Core.List.{List, [], _∷_, _++_}
 use Prim.Native.Nat.{ℕ, suc, _+_, _-_}
 use native.Mathlib.Omega.{arith}
 use lib.ListN.{length, take, drop, length-append}
@@ -18,8 +18,16 @@ use Rattle.messages.specs.declared.«file_reference».SelectMap.the-variants as
 use Rattle.messages.specs.declared.«file_reference».FileReferenceMsg.{FileReferenceMsg}
 use Rattle.messages.specs.declared.«file_reference».FileReferenceMsg.the-variants as reference
 use Rattle.messages.specs.Layouts.{summed}
-use Rattle.messages.specs.MessageOf.{head-extended, head-request, head-keys, head-midi, head-reference}
-use Rattle.writer.specs.Frames.{sum-of, wire}
+use Rattle.messages.specs.MessageOf.{headOf, head-extended, head-request, head-keys, head-midi, head-reference}
+use Rattle.messages.specs.declared.«system_exclusive».DeviceID.{DeviceID}
+use Rattle.messages.specs.declared.«system_exclusive».UniversalNonRealTimeMsg.{UniversalNonRealTimeMsg}
+use Rattle.messages.specs.Fields.{device-byte}
+use Rattle.fronts.specs.Fronts.{frontOf}
+use Rattle.fronts.specs.Sizes.{front-size}
+use Rattle.fronts.proofs.Laws.{front-length}
+use Rattle.parts.specs.Parts.{partOf}
+use Rattle.writer.specs.declared.Sizes.{Sizes}
+use Rattle.writer.specs.Frames.{sum-of, wire, frame-of, SizesOf}
 
 -- ---- which messages have one
 
@@ -68,3 +76,30 @@ sum-length false x y = refl
 pub run-body : {x0 bs x : List ℕ} {n b : ℕ} → Run x0 (b ∷ bs) x n → take (n - 1) (drop 1 x) ≡ bs
 run-body {x0} {bs} {x} {n} {b} r =
     ap (λ (t : List ℕ). take (n - 1) (drop 1 t)) (r .is) ∙ take-at bs (drop (suc (length bs)) x0) (n - 1) (omega (arith, r .len))
+
+-- the length of a message's frame, by its parts
+pub frame-length : (d : DeviceID) (m : UniversalNonRealTimeMsg) (text entries : List ℕ)
+    → length (frame-of d m text entries) ≡ 2 + front-size m + length (partOf m text entries) + length (sum-of (summed (headOf m)) [])
+unfolding frame-of
+frame-length d m text entries =
+    let f : List ℕ = frontOf (device-byte d) m (length text) (length entries) in
+    let p : List ℕ = partOf m text entries in
+    omega (
+      arith,
+      wire-length (summed (headOf m)) f p,
+      front-length (device-byte d) m (length text) (length entries),
+      sum-length (summed (headOf m)) [] (f ++ p),
+    )
+
+-- so is what the sizes add up to
+pub total-is : (s : Sizes) (d : DeviceID) (m : UniversalNonRealTimeMsg) (text entries : List ℕ) (n : ℕ) → SizesOf s m text entries
+    → n ≡ 2 + s .front + s .part + length (sum-of (s .sum) []) → n ≡ length (frame-of d m text entries)
+total-is s d m text entries n o e =
+    omega (arith, frame-length d m text entries, o .front-is, o .part-is, ap (λ (b : Bool). length (sum-of b [])) (o .sum-is))
+
+-- the frame, by the device's byte and whether there is a checksum
+pub frame-by : (b : Bool) (r : ℕ) (d : DeviceID) (m : UniversalNonRealTimeMsg) (text entries : List ℕ) → b ≡ summed (headOf m) → r ≡ device-byte d
+    → wire b (frontOf r m (length text) (length entries) ++ partOf m text entries) ≡ frame-of d m text entries
+unfolding frame-of
+frame-by b r d m text entries e f =
+    ap₂ (λ (t : Bool) (v : ℕ). wire t (frontOf v m (length text) (length entries) ++ partOf m text entries)) e f

@@ -21,7 +21,7 @@ use Rattle.messages.specs.Layouts.{summed}
 use Rattle.messages.specs.Messages.{settle, framed, with-sum}
 use Rattle.messages.specs.Contents.{contents}
 use Rattle.messages.specs.MessageOf.{headOf, fieldsOf, messageOf}
-use Rattle.tables.specs.Fronts.{frontOf}
+use Rattle.fronts.specs.Fronts.{frontOf}
 use Rattle.parts.specs.Parts.{partOf}
 use Rattle.writer.specs.Frames.{sum-of, wire}
 use Rattle.writer.proofs.Laws.Fronts.{device-held}

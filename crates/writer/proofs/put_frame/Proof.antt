@@ -8,18 +8,20 @@ use lib.ListN.{length, take, drop, set, length-set}
 use denote.Ref.{now}
 use borrow.Author.Needs.{needs}
 use borrow.Rule.Slice.PartMut.{putMid}
-use Rattle.util.specs.Fields.{encode}
 use Rattle.util.proofs.Laws.Splice.{Run, run-none, run-set, run-part, run-splice, run-room, run-length}
+use Rattle.fronts.specs.Fronts.{frontOf}
+use Rattle.fronts.specs.Sizes.{front-size}
+use Rattle.fronts.proofs.Laws.{front-length}
 use Rattle.parts.specs.Parts.{partOf}
 use Rattle.writer.specs.Frames.{sum-of, wire}
 use Rattle.writer.proofs.Laws.Sums.{wire-length, run-body}
 use Rattle.writer.proofs.put_frame.Statement.{statement}
 use Rattle.writer.proofs.put_frame.Tie as tie
 
-abbrev st : tie.After-put-fields → tie.Start
+abbrev st : tie.After-put-front → tie.Start
 st c = c .before .before .before .before .before
 
-abbrev pf : tie.After-put-part → tie.After-put-fields
+abbrev pf : tie.After-put-part → tie.After-put-front
 pf c = c .before .before .before .before
 
 abbrev pp : tie.After-put-sum → tie.After-put-part
@@ -29,7 +31,7 @@ abbrev x0 : tie.Start → List ℕ
 x0 s = now (s .args .out)
 
 abbrev H : tie.Start → List ℕ
-H s = encode (s .args .widths) (s .args .values)
+H s = frontOf (s .args .d) (s .args .m) (length (now (s .args .text))) (length (now (s .args .entries)))
 
 abbrev D : tie.Start → List ℕ
 D s = partOf (s .args .m) (now (s .args .text)) (now (s .args .entries))
@@ -41,11 +43,11 @@ S s = sum-of (s .args .sum) (H s ++ D s)
 abbrev x1 : tie.Start → List ℕ
 x1 s = set (x0 s) 0 0xF0
 
-abbrev x2 : tie.After-put-fields → List ℕ
-x2 c = putMid 1 (length (x1 (st c)) - 1) (x1 (st c)) (c .put-fields .last .0)
+abbrev x2 : tie.After-put-front → List ℕ
+x2 c = putMid 1 (length (x1 (st c)) - 1) (x1 (st c)) (c .put-front .last .0)
 
-abbrev n2 : tie.After-put-fields → ℕ
-n2 c = 1 + c .put-fields .result
+abbrev n2 : tie.After-put-front → ℕ
+n2 c = 1 + st c .args .size
 
 abbrev x3 : tie.After-put-part → List ℕ
 x3 c = putMid (n2 (pf c)) (length (x2 (pf c)) - n2 (pf c)) (x2 (pf c)) (c .put-part .last .0)
@@ -59,13 +61,17 @@ room s = rw wire-length at (s .pre .3)
 r1 : (s : tie.Start) → Run (x0 s) (0xF0 ∷ []) (x1 s) 1
 r1 s = run-set (run-none (x0 s)) 0xF0 (omega (arith, room s))
 
-l2 : (c : tie.After-put-fields) → length (H (st c)) ≡ c .put-fields .result
-l2 c = sym (c .put-fields .ensures .0)
+-- how long the front is
+l0 : (s : tie.Start) → length (H s) ≡ front-size (s .args .m)
+l0 s = front-length (s .args .d) (s .args .m) (length (now (s .args .text))) (length (now (s .args .entries)))
 
-r2 : (c : tie.After-put-fields) → Run (x0 (st c)) (0xF0 ∷ H (st c)) (x2 c) (n2 c)
+l2 : (c : tie.After-put-front) → length (H (st c)) ≡ st c .args .size
+l2 c = l0 (st c) ∙ sym (st c .pre .1)
+
+r2 : (c : tie.After-put-front) → Run (x0 (st c)) (0xF0 ∷ H (st c)) (x2 c) (n2 c)
 r2 c =
-    run-part (r1 (st c)) (c .put-fields .last .0) (H (st c)) (c .put-fields .result) (l2 c) (omega (arith, room (st c), l2 c))
-    (c .put-fields .ensures .1)
+    run-part (r1 (st c)) (c .put-front .last .0) (H (st c)) (st c .args .size) (l2 c) (omega (arith, room (st c), l2 c))
+    (c .put-front .ensures)
 
 r3 : (c : tie.After-put-part) → Run (x0 (st (pf c))) (0xF0 ∷ H (st (pf c)) ++ D (st (pf c))) (x3 c) (n3 c)
 r3 c =
@@ -79,7 +85,7 @@ l3 c = omega (arith, l2 (pf c), st (pf c) .pre .2)
 abbrev s4 : tie.After-put-sum → tie.Start
 s4 c = st (pf (pp c))
 
--- the checksum is of the table's fields and the part
+-- the checksum is of the front and the part
 sum-is : (c : tie.After-put-sum) → sum-of (s4 c .args .sum) (take (n3 (pp c) - 1) (drop 1 (x3 (pp c)))) ≡ S (s4 c)
 sum-is c = ap (sum-of (s4 c .args .sum)) (run-body (r3 (pp c)))
 
@@ -95,17 +101,17 @@ r4 c =
 slice-write-out : tie.Need-slice-write-out
 slice-write-out c = omega (arith, room (c .before .before .before))
 
-sub-put-fields : tie.Need-sub-put-fields
-sub-put-fields c = rw length-set (omega (arith, room (c .before .before .before)))
+sub-put-front : tie.Need-sub-put-front
+sub-put-front c = rw length-set (omega (arith, room (c .before .before .before)))
 
-part-put-fields-start : tie.Need-part-put-fields-start
-part-put-fields-start c = rw length-set (omega (arith, room (c .before .before .before)))
+part-put-front-start : tie.Need-part-put-front-start
+part-put-front-start c = rw length-set (omega (arith, room (c .before .before .before)))
 
-part-put-fields-end : tie.Need-part-put-fields-end
-part-put-fields-end c = search needs
+part-put-front-end : tie.Need-part-put-front-end
+part-put-front-end c = search needs
 
-put-fields-requires : tie.Need-put-fields-requires
-put-fields-requires c κs = let s = c .before .before .before .before in (s .pre .0, run-room (r1 s) _ (omega (arith, room s)))
+put-front-requires : tie.Need-put-front-requires
+put-front-requires c κs = let s = c .before .before .before .before in run-room (r1 s) _ (omega (arith, room s, l0 s))
 
 add-a : tie.Need-add-a
 add-a c = let p = c .before .before in omega (arith, room (st p), l2 p, st p .good .0 .0)
@@ -120,7 +126,7 @@ part-put-part-end : tie.Need-part-put-part-end
 part-put-part-end c = search needs
 
 put-part-requires : tie.Need-put-part-requires
-put-part-requires c κs = let p = c .before .before .before in (st p .pre .1, run-room (r2 p) _ (omega (arith, room (st p), l2 p)))
+put-part-requires c κs = let p = c .before .before .before in (st p .pre .0, run-room (r2 p) _ (omega (arith, room (st p), l2 p)))
 
 add-e : tie.Need-add-e
 add-e c = let r = c .before .before in omega (arith, l3 r, room (st (pf r)), st (pf r) .good .0 .0)
@@ -146,10 +152,10 @@ put-frame-spec =
     tie.close
     (tie.spec
     slice-write-out
-    sub-put-fields
-    part-put-fields-start
-    part-put-fields-end
-    put-fields-requires
+    sub-put-front
+    part-put-front-start
+    part-put-front-end
+    put-front-requires
     add-a
     sub-put-part
     part-put-part-start

@@ -1,27 +1,28 @@
--- `writer::write` meets its contract, by what the test of the contents tells.
+-- `writer::write` meets its contract: a handshake message has its frame of six bytes, another is written as it is.
 -- Assumes nothing.
-use mathlib.Core.Path.{refl, sym, _∙_}
+use mathlib.Core.Path.{sym, _∙_}
 use native.Mathlib.Omega.{arith}
 use denote.Ref.{now}
 use borrow.Author.Needs.{needs}
-use Rattle.writer.proofs.Laws.Whole.{channels-fit}
-use Rattle.writer.proofs.Laws.Answers.{told-none, told-some, bytes-all, write-frame, write-refused}
+use Rattle.writer.proofs.Laws.Answers.{bytes-all}
+use Rattle.writer.proofs.Laws.Handshakes.{handshake-written}
 use Rattle.writer.proofs.write.Statement.{statement}
 use Rattle.writer.proofs.write.Tie as tie
 
-refused-requires : tie.Need-refused-requires
-refused-requires c κs = search needs
+handshake-of-requires : tie.Need-handshake-of-requires
+handshake-of-requires c κs = search needs
+
+enum-known-h : tie.Need-enum-known-h
+enum-known-h c = search needs
+
+write-handshake-requires : tie.Need-write-handshake-requires
+write-handshake-requires c κs = search needs
 
 enum-told : tie.Need-enum-told
 enum-told c = search needs
 
-write-admitted-requires : tie.Need-write-admitted-requires
-write-admitted-requires c κs =
-    let r = c .before .before .before in
-    told-none _ (sym (r .refused .ensures) ∙ c .before .enum-told .given .1)
-
-enum-known-told : tie.Need-enum-known-told
-enum-known-told c = search needs
+write-message-requires : tie.Need-write-message-requires
+write-message-requires c κs = search needs
 
 same-length : tie.Need-same-length
 same-length c = search needs
@@ -29,29 +30,30 @@ same-length c = search needs
 returns : tie.Need-returns
 returns c =
     let w = c .before .before in
-    let t = w .before .before in
+    let t = w .before .before .before in
     let r = t .before .before in
     let s = r .before .before .before .before in
-    rw (write-frame (s .args .device) (s .args .m) (now (s .args .text)) (now (s .args .entries)) (told-none _ (sym (r .refused .ensures) ∙ t .enum-told .given .1))
-    (bytes-all (now (s .args .text)) (λ i. omega (arith, r .before .before .before .shared-slice-known .given i))) (channels-fit (s .args .m) (s .good .1 .0)))
-    (w .write-admitted .ensures)
+    rw (handshake-written (s .args .device) (s .args .m) (now (s .args .text)) (now (s .args .entries)) (t .h .given .0 .0) (t .h .given .0 .1 .0)
+    (sym (r .handshake-of .ensures) ∙ t .h .given .1)
+    (bytes-all (now (s .args .text)) (λ i. omega (arith, r .before .before .before .shared-slice-known .given i))))
+    (w .write-handshake .ensures)
+
+same-length-2 : tie.Need-same-length-2
+same-length-2 c = search needs
 
 returns-2 : tie.Need-returns-2
-returns-2 c =
-    let r = c .before .before .before in
-    let s = r .before .before .before .before in
-    rw (write-refused (s .args .device) (s .args .m) (now (s .args .text)) (now (s .args .entries)) (c .before .told .given .0 .0)
-    (told-some _ (c .before .told .given .0 .0) (sym (r .refused .ensures) ∙ c .before .told .given .1)))
-    (refl, refl)
+returns-2 c = c .before .before .write-message .ensures
 
 pub write-spec : {M : Type 1} → statement M
 write-spec =
     tie.close
     (tie.spec
-    refused-requires
+    handshake-of-requires
+    enum-known-h
+    write-handshake-requires
     enum-told
-    write-admitted-requires
-    enum-known-told
+    write-message-requires
     same-length
     returns
+    same-length-2
     returns-2)

@@ -1,7 +1,7 @@
 -- `writer::write_admitted` meets its contract: without room SPACE, with room the frame at the place.
 -- Assumes nothing.
 use mathlib.Core.List.{List}
-use mathlib.Core.Path.{sym}
+use mathlib.Core.Path.{_≡_, sym}
 use Prim.Native.Nat.{ℕ}
 use native.Mathlib.Omega.{arith}
 use lib.ListN.{length}
@@ -9,16 +9,30 @@ use denote.Ref.{now}
 use borrow.Author.Needs.{needs}
 use Rattle.util.proofs.Laws.Splice.{tail-room, part-put}
 use Rattle.writer.specs.Frames.{frame-of}
+use Rattle.writer.proofs.Laws.Sums.{total-is}
 use Rattle.writer.proofs.Laws.Answers.{no-room, in-room, room-past, room-short, room-there}
 use Rattle.writer.proofs.write_admitted.Statement.{statement}
 use Rattle.writer.proofs.write_admitted.Tie as tie
 
-admitted-length-requires : tie.Need-admitted-length-requires
-admitted-length-requires c κs = search needs
+abbrev st : tie.After-total-of → tie.Start
+st n = n .before .before .before .before .before
+
+-- what is counted is the length of the message's frame
+counted : (n : tie.After-total-of)
+    → n .total-of .result ≡ length (frame-of (st n .args .device) (st n .args .m) (now (st n .args .text)) (now (st n .args .entries)))
+counted n =
+    let s = st n in
+    total-is (n .before .sizes-of .result) (s .args .device) (s .args .m) (now (s .args .text)) (now (s .args .entries)) _ (n .before .sizes-of .ensures) (n .total-of .ensures)
+
+sizes-of-requires : tie.Need-sizes-of-requires
+sizes-of-requires c κs = search needs
+
+total-of-requires : tie.Need-total-of-requires
+total-of-requires c κs = (c .sizes-of .ensures .front-few, c .sizes-of .ensures .part-few)
 
 returns : tie.Need-returns
 returns c =
-    let s = c .before .before .before .before .before in
+    let s = st (c .before) in
     no-room (frame-of (s .args .device) (s .args .m) (now (s .args .text)) (now (s .args .entries))) (now (s .args .out)) (s .args .place)
     (room-past (length (now (s .args .out))) (s .args .place) _ (c .if1 .taken))
 
@@ -28,9 +42,9 @@ sub-if2 c = search needs
 returns-2 : tie.Need-returns-2
 returns-2 c =
     let n = c .before .before in
-    let s = n .before .before .before .before in
+    let s = st n in
     no-room (frame-of (s .args .device) (s .args .m) (now (s .args .text)) (now (s .args .entries))) (now (s .args .out)) (s .args .place)
-    (room-short (length (now (s .args .out))) (s .args .place) _ (c .before .if1 .left) (rw (sym (n .admitted-length .ensures)) (c .if2 .taken)))
+    (room-short (length (now (s .args .out))) (s .args .place) _ (c .before .if1 .left) (rw (sym (counted n)) (c .if2 .taken)))
 
 sub-put-admitted : tie.Need-sub-put-admitted
 sub-put-admitted c = search needs
@@ -44,8 +58,8 @@ part-put-admitted-end c = search needs
 put-admitted-requires : tie.Need-put-admitted-requires
 put-admitted-requires c κs =
     let n = c .before .before .before in
-    let s = n .before .before .before .before in
-    (s .pre, tail-room (now (s .args .out)) (s .args .place) _ (omega (arith, n .admitted-length .ensures, c .before .if2 .left, c .before .before .if1 .left)))
+    let s = st n in
+    (s .pre, n .before .sizes-of .ensures, tail-room (now (s .args .out)) (s .args .place) _ (omega (arith, counted n, c .before .if2 .left, c .before .before .if1 .left)))
 
 same-length : tie.Need-same-length
 same-length c = search needs
@@ -55,18 +69,19 @@ returns-3 c =
     let p = c .before .before in
     let e = p .before .before in
     let n = e .before .before in
-    let s = n .before .before .before .before in
+    let s = st n in
     let f : List ℕ = frame-of (s .args .device) (s .args .m) (now (s .args .text)) (now (s .args .entries)) in
-    in-room f (now (s .args .out)) _ (s .args .place) (n .admitted-length .result)
-    (room-there (length (now (s .args .out))) (s .args .place) (length f) (e .before .if1 .left) (rw (sym (n .admitted-length .ensures)) (e .if2 .left)))
-    (n .admitted-length .ensures)
+    in-room f (now (s .args .out)) _ (s .args .place) (n .total-of .result)
+    (room-there (length (now (s .args .out))) (s .args .place) (length f) (e .before .if1 .left) (rw (sym (counted n)) (e .if2 .left)))
+    (counted n)
     (part-put (now (s .args .out)) (p .put-admitted .last .0) f (s .args .place) (p .put-admitted .ensures))
 
 pub write-admitted-spec : {M : Type 1} → statement M
 write-admitted-spec =
     tie.close
     (tie.spec
-    admitted-length-requires
+    sizes-of-requires
+    total-of-requires
     returns
     sub-if2
     returns-2

@@ -1,74 +1,83 @@
--- `parts::text::put_filled` meets its contract. The invariant: the stores that are left, made on what is there, give what all stores give.
+-- `parts::text::put_filled` meets its contract: the bytes that are there, and after them those that fill.
 -- Assumes nothing.
-use mathlib.Core.Path.{_≡_, refl, sym, _∙_}
-use Prim.Native.Nat.{_-_, _≤_, _<_}
+use mathlib.Core.List.{List, _++_}
+use mathlib.Core.Path.{_≡_, sym, ap, _∙_}
+use Prim.Native.Nat.{ℕ, _-_}
 use native.Mathlib.Omega.{arith}
-use lib.Seq.{sets}
-use lib.ListN.{length, drop, length-set}
+use lib.Seq.{length-take-le}
+use lib.ListN.{length, take, replicate, length-replicate}
 use denote.Ref.{now}
 use borrow.Author.Needs.{needs}
-use Rattle.util.proofs.Laws.Splice.{store-turn, store-done}
+use Rattle.util.proofs.Laws.Splice.{Run, run-part}
 use Rattle.parts.specs.Writing.{fill-to}
-use Rattle.parts.proofs.Laws.Texts.{length-fill, getD-fill}
+use Rattle.parts.proofs.Laws.Fronts.{fronts}
+use Rattle.parts.proofs.Laws.Texts.{length-fill, fill-split}
 use Rattle.parts.proofs.text.put_filled.Statement.{statement}
 use Rattle.parts.proofs.text.put_filled.Tie as tie
 
-abbrev Inv-loop : tie.InvT-loop
-Inv-loop out₀ s n f i₀ out i = (i ≤ n) × (length out ≡ length out₀) × (sets out i (drop i (fill-to f n s)) ≡ sets out₀ 0 (fill-to f n s))
+-- the bytes that are there
+many : (c : tie.After-at-most) → length (take (c .at-most .result) (now (c .before .before .before .args .s))) ≡ c .at-most .result
+many c = length-take-le (c .at-most .result) (now (c .before .before .before .args .s)) (omega (arith, c .at-most .ensures))
 
-abbrev μ-loop : tie.MeasureT-loop
-μ-loop out₀ s n f i₀ out i = n - i
+at-most-requires : tie.Need-at-most-requires
+at-most-requires c κs = search needs
 
-loop-holds : tie.Need-loop-holds Inv-loop μ-loop
-loop-holds c = (search needs, refl, refl)
+slice-aggregate-put-held : tie.Need-slice-aggregate-put-held
+slice-aggregate-put-held c = sym (many (c .before .before))
 
-held-at-requires : tie.Need-held-at-requires Inv-loop μ-loop
-held-at-requires c κs = search needs
+put-held-requires : tie.Need-put-held-requires
+put-held-requires c κs = let m = c .before .before in omega (arith, many m, m .at-most .ensures, m .before .before .before .pre)
 
-slice-write-out : tie.Need-slice-write-out Inv-loop μ-loop
-slice-write-out c = search needs
+held-requires : tie.Need-held-requires
+held-requires c κs = search needs
 
-add-i : tie.Need-add-i Inv-loop μ-loop
-add-i c = search needs
+sub-fill : tie.Need-sub-fill
+sub-fill c = search needs
 
-loop-less : tie.Need-loop-less Inv-loop μ-loop
-loop-less c = search needs
+part-fill-start : tie.Need-part-fill-start
+part-fill-start c = search needs
 
-loop-again : tie.Need-loop-again Inv-loop μ-loop
-loop-again c =
-    let l = c .before .before .loop in
-    let a = c .before .before .before .before .before .args in
-    let t = fill-to (a .f) (a .n) (now (a .s)) in
-    let m : length t ≡ a .n = length-fill (a .f) (a .n) (now (a .s)) in
-    let h : l .i < a .n = c .before .loop-test .taken in (
-      omega arith,
-      simp length-set (l .inv .1),
-      store-turn t (l .out) (l .i) _ (omega arith) (c .held-at .ensures ∙ sym (getD-fill (a .f) (a .n) (now (a .s)) (l .i) h)) ∙ l .inv .2,
-    )
+part-fill-end : tie.Need-part-fill-end
+part-fill-end c = search needs
 
-same-length : tie.Need-same-length Inv-loop μ-loop
+sub-fill-2 : tie.Need-sub-fill-2
+sub-fill-2 c = search needs
+
+fill-requires : tie.Need-fill-requires
+fill-requires c κs = search needs
+
+same-length : tie.Need-same-length
 same-length c = search needs
 
-returns : tie.Need-returns Inv-loop μ-loop
+returns : tie.Need-returns
 returns c =
-    let l = c .before .loop in
-    let b = c .before .before .before .before in
-    let t = fill-to (b .args .f) (b .args .n) (now (b .args .s)) in
-    let m : length t ≡ b .args .n = length-fill (b .args .f) (b .args .n) (now (b .args .s)) in
-    let h = c .loop-test .left in
-    store-done t (l .out) (now (b .args .out)) (l .i) (omega arith) (omega (arith, b .pre)) (l .inv .2)
+    let p = c .before .before in
+    let h = p .before .before in
+    let w = h .before .before .before in
+    let m = w .before .before .before in
+    let s = m .before .before .before in
+    let k = m .at-most .result in
+    let t = take k (now (s .args .s)) in
+    let r : Run (now (s .args .out)) (fill-to 0 (length t) t) (w .put-held .last .0) k =
+    record { is = w .put-held .ensures; len = length-fill 0 (length t) t ∙ many m; fits = omega (arith, s .pre, m .at-most .ensures) } in
+    run-part r (p .fill .last .0) (replicate (s .args .n - k) (h .held .result)) (s .args .n - k) (length-replicate _ _)
+    (omega (arith, s .pre, m .at-most .ensures)) (p .fill .ensures) .is
+    ∙ fronts (now (s .args .out))
+    (ap (λ (v : ℕ). fill-to 0 (length t) t ++ replicate (s .args .n - k) v) (h .held .ensures)
+    ∙ sym (fill-split (s .args .f) (s .args .n) k (now (s .args .s)) (m .at-most .ensures)))
 
 pub put-filled-spec : {M : Type 1} → statement M
 put-filled-spec =
     tie.close
     (tie.spec
-    Inv-loop
-    μ-loop
-    loop-holds
-    held-at-requires
-    slice-write-out
-    add-i
-    loop-less
-    loop-again
+    at-most-requires
+    slice-aggregate-put-held
+    put-held-requires
+    held-requires
+    sub-fill
+    part-fill-start
+    part-fill-end
+    sub-fill-2
+    fill-requires
     same-length
     returns)

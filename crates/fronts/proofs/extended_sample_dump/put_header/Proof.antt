@@ -1,0 +1,57 @@
+-- `fronts::extended_sample_dump::put_header` meets its contract: its two writes are the fields up to the rate and those after it.
+-- Assumes nothing.
+use mathlib.Core.Path.{refl}
+use mathlib.Core.List.{List, [], _∷_}
+use Prim.Native.Nat.{ℕ}
+use native.Mathlib.Omega.{arith}
+use denote.Ref.{now}
+use borrow.Author.Needs.{needs}
+use Rattle.util.proofs.Laws.Splice.{Run, run-part}
+use Rattle.fronts.specs.Fronts.{clamp, extended-loop-byte, spell, start-2}
+use Rattle.fronts.proofs.extended_sample_dump.put_header.Statement.{statement}
+use Rattle.fronts.proofs.extended_sample_dump.put_header.Tie as tie
+
+-- the fields up to the rate, and those after it
+abbrev rate : tie.Start → List ℕ
+rate s = start-2 (s .args .d) 0x05 0x05 ((2, s .args .sample) ∷ (1, clamp 8 28 (s .args .format)) ∷ (4, s .args .whole) ∷ (4, s .args .fraction) ∷ [])
+
+abbrev points : tie.Start → List ℕ
+points s = spell ((5, s .args .len) ∷ (5, s .args .start) ∷ (5, s .args .end) ∷ (1, extended-loop-byte (s .args .kind)) ∷ (1, s .args .channels) ∷ [])
+
+put-header-rate-requires : tie.Need-put-header-rate-requires
+put-header-rate-requires c κs = search needs
+
+sub-put-header-points : tie.Need-sub-put-header-points
+sub-put-header-points c = search needs
+
+part-put-header-points-start : tie.Need-part-put-header-points-start
+part-put-header-points-start c = search needs
+
+part-put-header-points-end : tie.Need-part-put-header-points-end
+part-put-header-points-end c = search needs
+
+put-header-points-requires : tie.Need-put-header-points-requires
+put-header-points-requires c κs = search needs
+
+same-length : tie.Need-same-length
+same-length c = search needs
+
+returns : tie.Need-returns
+returns c =
+    let p = c .before .before in
+    let a = p .before .before .before .before in
+    let s = a .before .before .before in
+    let r : Run (now (s .args .out)) (rate s) (a .put-header-rate .last .0) 15 = record { is = a .put-header-rate .ensures; len = refl; fits = omega arith } in
+    run-part r (p .put-header-points .last .0) (points s) 17 refl (omega arith) (p .put-header-points .ensures) .is
+
+pub put-header-spec : {M : Type 1} → statement M
+put-header-spec =
+    tie.close
+    (tie.spec
+    put-header-rate-requires
+    sub-put-header-points
+    part-put-header-points-start
+    part-put-header-points-end
+    put-header-points-requires
+    same-length
+    returns)
