@@ -1,5 +1,8 @@
 // One case of a file: its parts are read, and it is replayed.
+use super::back;
 use super::floats;
+use super::readings;
+use super::readings::Expected;
 use super::tries;
 use messages::system_exclusive::DeviceID;
 use messages::system_exclusive::UniversalNonRealTimeMsg;
@@ -8,6 +11,7 @@ use vectors::cases::Extents;
 use vectors::fit;
 use vectors::fit::FitU32;
 use vectors::little;
+ghost use mathlib.Core.Path.{_≡_};
 ghost use Prim.Native.Nat.{_≤_};
 ghost use lib.ListN.{length};
 ghost use Rattle.vectors.specs.Extents.{Inside};
@@ -20,7 +24,7 @@ pub enum Verdict {
 }
 
 // A test as a verdict.
-fn judged(ok: bool) -> Verdict {
+pub fn judged(ok: bool) -> Verdict {
     if ok { Verdict::Passed } else { Verdict::Failed }
 }
 
@@ -118,7 +122,10 @@ fn replay_write(s: &[u8], e: Extents, entries: &mut [u64], out: &mut [u8]) -> Ve
         return Verdict::Malformed;
     };
     little::read_numbers(s, start, &mut entries[0..count]);
-    replay_message(device, m, s, e, &entries[0..count], out)
+    let Verdict::Passed = replay_message(device, m, s, e, &entries[0..count], out) else {
+        return Verdict::Failed;
+    };
+    judged(e.refusal != 0 || back::reads_back(bytes_of(s, e), &v, n))
 }
 
 // Whether a case of rates or cents has so many numbers, and nothing but numbers.
@@ -209,12 +216,77 @@ fn replay_floats(s: &[u8], e: Extents) -> Verdict
     Verdict::Malformed
 }
 
+// What a case of reading says.
+fn expected_of(s: &[u8], e: Extents) -> Expected
+    requires { ⌜ Inside e (length (now s)) × (e .«out_numbers» .count ≤ 16) ⌝ }
+    ensures { λ r. ⌜ (r .start ≡ e .«out_entries» .start) × (r .places ≡ e .«out_entries» .count) ⌝ }
+{
+    let numbers = e.out_numbers;
+    let entries = e.out_entries;
+    Expected {
+        refusal: e.refusal,
+        values: out_numbers_of(s, e),
+        count: numbers.count,
+        start: entries.start,
+        places: entries.count,
+    }
+}
+
+// Replays a reading with x places lent for file data and y for entries.
+fn replay_lent(s: &[u8], e: Extents, kind: u64, x: u64, y: u64, entries: &mut [u64], out: &mut [u8]) -> Verdict
+    requires { ⌜ Inside e (length (now s)) × (e .«out_numbers» .count ≤ 16) ⌝ }
+{
+    if (out.len() as u64) < x {
+        return Verdict::Malformed;
+    }
+    if (entries.len() as u64) < y {
+        return Verdict::Malformed;
+    }
+    let frame = text_of(s, e);
+    let bytes = bytes_of(s, e);
+    let a = x as usize;
+    let b = y as usize;
+    judged(readings::is_read(frame, kind, bytes, s, expected_of(s, e), &mut out[0..a], &mut entries[0..b]))
+}
+
+// Replays a reading.
+fn replay_read(s: &[u8], e: Extents, entries: &mut [u64], out: &mut [u8]) -> Verdict
+    requires { ⌜ Inside e (length (now s)) ⌝ }
+{
+    let numbers = e.numbers;
+    let out_numbers = e.out_numbers;
+    if numbers.count != 3 {
+        return Verdict::Malformed;
+    }
+    if 16 < out_numbers.count {
+        return Verdict::Malformed;
+    }
+    let v = numbers_of(s, e);
+    if 1 < v[0] {
+        return Verdict::Malformed;
+    }
+    replay_lent(s, e, v[0], v[1], v[2], entries, out)
+}
+
+// Replays an identity reading.
+fn replay_identity(s: &[u8], e: Extents) -> Verdict
+    requires { ⌜ Inside e (length (now s)) ⌝ }
+{
+    let out_numbers = e.out_numbers;
+    let count = out_numbers.count;
+    if 16 < count {
+        return Verdict::Malformed;
+    }
+    let w = out_numbers_of(s, e);
+    judged(readings::is_identity(text_of(s, e), e.refusal, &w, count))
+}
+
 // Whether cases of an op are replayed.
 pub fn is_replayed(op: u8) -> bool {
-    if op == 1 {
-        return true;
+    if op == 3 {
+        return false;
     }
-    5 <= op && op <= 7
+    1 <= op && op <= 7
 }
 
 // Replays a case of an op that is replayed.
@@ -223,6 +295,12 @@ pub fn replay_case(s: &[u8], e: Extents, entries: &mut [u64], out: &mut [u8]) ->
 {
     if e.op == 1 {
         return replay_write(s, e, entries, out);
+    }
+    if e.op == 2 {
+        return replay_read(s, e, entries, out);
+    }
+    if e.op == 4 {
+        return replay_identity(s, e);
     }
     replay_floats(s, e)
 }

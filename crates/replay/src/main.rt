@@ -1,8 +1,13 @@
 // Replays files of test vectors, named by its arguments, and prints how many cases passed and failed.
+mod back;
 mod cases;
 mod files;
 mod floats;
+mod message_numbers;
 mod print;
+mod readings;
+mod sample_numbers;
+mod settled;
 mod tries;
 
 use files::Tally;

@@ -77,3 +77,109 @@ fn are_entries(out: &[u64], count: usize, s: &[u8], start: usize) -> bool
 fn kind_of(n: u64) -> Kind {
     if n == 0 { Kind::Bank } else { Kind::WAV }
 }
+
+// How many places of file data, and of entries, a message of a head code takes, of so many places in all.
+fn data_places(code: u64, places: usize) -> usize {
+    if code == 0x0702 { places } else { 0 }
+}
+
+fn entry_places(code: u64, places: usize) -> usize {
+    if code == 0x0702 { 0 } else { places }
+}
+
+// Whether lent space was left as the case says: so many places of each used, with these bytes and numbers, and the rest as it was.
+fn is_left(data: &[u8], entries: &[u64], used: usize, count: usize, s: &[u8], start: usize) -> bool
+    requires { ⌜ start + 8 * count ≤ length (now s) ⌝ }
+{
+    if data.len() < used {
+        return false;
+    }
+    if entries.len() < count {
+        return false;
+    }
+    if !tries::is_kept(data, used, data.len()) {
+        return false;
+    }
+    if !is_kept(entries, count) {
+        return false;
+    }
+    are_entries(entries, count, s, start)
+}
+
+// The text of a message: its file data in lent space, or the part of the frame.
+fn text_of(code: u64, frame: &[u8], from: usize, len: usize, data: &[u8], bytes: &[u8]) -> bool {
+    if code == 0x0702 {
+        if data.len() < bytes.len() {
+            return false;
+        }
+        return check::same(&data[0..bytes.len()], bytes);
+    }
+    check::same(reader::part(frame, from, len), bytes)
+}
+
+// Whether both kinds of lent space are as they were.
+fn is_untouched(data: &[u8], entries: &[u64]) -> bool {
+    if !tries::is_kept(data, 0, data.len()) {
+        return false;
+    }
+    is_kept(entries, 0)
+}
+
+// What a case of reading says: the refusal's number, the message's numbers, its text, and its entries, which stand in a slice.
+pub struct Expected {
+    pub refusal: u8,
+    pub values: [u64; 16],
+    pub count: usize,
+    pub start: usize,
+    pub places: usize,
+}
+
+// Whether an answer is the one of the case, and the lent space too.
+fn is_answer(r: Reading, frame: &[u8], bytes: &[u8], s: &[u8], x: Expected, data: &[u8], entries: &[u64]) -> bool
+    requires { ⌜ x .start + 8 * x .places ≤ length (now s) ⌝ }
+{
+    match r {
+        Reading::Refused(n) => n.number() == x.refusal && is_untouched(data, entries),
+        Reading::Frame {
+            device,
+            m,
+            from,
+            len,
+            places,
+        } => {
+            let code = x.values[0];
+            let used = data_places(code, places);
+            if x.refusal != 0 {
+                return false;
+            }
+            if entry_places(code, places) != x.places {
+                return false;
+            }
+            if !is_numbers(message_numbers::numbers_of(device, m), &x.values, x.count) {
+                return false;
+            }
+            if !is_left(data, entries, used, x.places, s, x.start) {
+                return false;
+            }
+            text_of(code, frame, from, len, data, bytes)
+        }
+    }
+}
+
+// Reads a frame with so many places lent, and holds the answer to the case.
+pub fn is_read(frame: &[u8], kind: u64, bytes: &[u8], s: &[u8], x: Expected, data: &mut [u8], entries: &mut [u64]) -> bool
+    requires { ⌜ x .start + 8 * x .places ≤ length (now s) ⌝ }
+{
+    tries::fill(data);
+    fill(entries);
+    let r = reader::read(frame, kind_of(kind), data, entries);
+    is_answer(r, frame, bytes, s, x, data, entries)
+}
+
+// Whether identity bytes are read as the case says.
+pub fn is_identity(bytes: &[u8], refusal: u8, values: &[u64; 16], count: usize) -> bool {
+    match UniversalNonRealTimeMsg::from_midi(bytes) {
+        IdentityReading::Reply(r) => refusal == 0 && is_numbers(message_numbers::reply(r), values, count),
+        IdentityReading::Refused(n) => n.number() == refusal,
+    }
+}

@@ -18,7 +18,7 @@ fn pattern(i: usize) -> u8 {
 }
 
 // Fills an output with the pattern.
-fn fill(out: &mut [u8]) {
+pub fn fill(out: &mut [u8]) {
     let mut i = 0;
     while i < out.len() {
         out[i] = pattern(i);
@@ -27,7 +27,7 @@ fn fill(out: &mut [u8]) {
 }
 
 // Whether the bytes from a place up to an end are those of the pattern.
-fn is_kept(out: &[u8], from: usize, end: usize) -> bool
+pub fn is_kept(out: &[u8], from: usize, end: usize) -> bool
     requires { ⌜ end ≤ length (now out) ⌝ }
 {
     let mut i = from;
