@@ -1,0 +1,5 @@
+pub mod Runs
+pub mod Frames
+pub mod Shape
+pub mod Index
+pub mod Answers

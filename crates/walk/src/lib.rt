@@ -1,0 +1,154 @@
+// Lists the frames of a stream in an index.
+use messages::file_reference::Kind;
+use util::refusal::Refusal;
+ghost use mathlib.Core.Path.{_≡_};
+ghost use Prim.Native.Nat.{_+_, _*_, _-_, _<_, _≤_};
+ghost use lib.ListN.{length, take, drop, getD};
+ghost use Rattle.messages.specs.Walk.{frames, is-frame};
+ghost use Rattle.walk.specs.Steps.{run, is-low, not-f0, next, put, put-all};
+ghost use Rattle.walk.specs.Answer.{WalkMet};
+
+// What the walk answers: the number of frames, or a refusal and the value besides its number.
+pub enum Walked {
+    Frames(usize),
+    Refused(Refusal, usize),
+}
+
+// The first place from `from` on whose byte is not below 128, or the end.
+fn high_from(s: &[u8], from: usize) -> usize
+    requires { ⌜ from ≤ length (now s) ⌝ }
+    ensures { λ r. ⌜ r ≡ from + run is-low (drop from (now (s .entry))) ⌝ }
+{
+    let mut i = from;
+    while i < s.len() {
+        if 127 < s[i] {
+            return i;
+        }
+        i += 1;
+    }
+    i
+}
+
+// The first place from `from` on whose byte is F0, or the end.
+fn f0_from(s: &[u8], from: usize) -> usize
+    requires { ⌜ from ≤ length (now s) ⌝ }
+    ensures { λ r. ⌜ r ≡ from + run not-f0 (drop from (now (s .entry))) ⌝ }
+{
+    let mut i = from;
+    while i < s.len() {
+        if s[i] == 0xF0 {
+            return i;
+        }
+        i += 1;
+    }
+    i
+}
+
+// Puts a pair at place n of an index that has room for it.
+fn put_pair(index: &mut [u32], n: usize, offset: u32, len: u32)
+    requires { ⌜ n < 65536 ⌝ }
+    ensures { λ _. ⌜ now (index .exit) ≡ put (now (index .entry)) n offset len ⌝ }
+{
+    let k = n * 2;
+    if k + 1 < index.len() {
+        index[k] = offset;
+        index[k + 1] = len;
+    }
+}
+
+// `f0_from` of a stream behind a second reference: a reading that holds no slice passes to the other by a jump.
+fn next_f0(stream: &&[u8], from: usize) -> usize
+    requires { ⌜ from ≤ length (now (now stream)) ⌝ }
+    ensures { λ r. ⌜ r ≡ from + run not-f0 (drop from (now (now (stream .entry)))) ⌝ }
+{
+    f0_from(*stream, from)
+}
+
+// `high_from` of a stream behind a second reference.
+fn next_high(stream: &&[u8], from: usize) -> usize
+    requires { ⌜ from ≤ length (now (now stream)) ⌝ }
+    ensures { λ r. ⌜ r ≡ from + run is-low (drop from (now (now (stream .entry)))) ⌝ }
+{
+    high_from(*stream, from)
+}
+
+// Whether the stretch from the F0 at `start` to the next byte that is not below 128, at `e`, is a frame.
+fn frame_at(stream: &&[u8], kind: Kind, start: usize, e: usize) -> bool
+    requires { ⌜ (start < length (now (now stream))) × (length (now (now stream)) ≤ 65535) × (getD (now (now stream)) start 0 ≡ 0xF0) × (e ≡ (start + 1) + run is-low (drop (start + 1) (now (now stream)))) ⌝ }
+    ensures { λ r. ⌜ r ≡ is-frame kind (take (e + 1 - start) (drop start (now (now (stream .entry))))) ⌝ }
+{
+    let s = *stream;
+    if s.len() < e + 1 {
+        return false;
+    }
+    if e < start + 5 {
+        return false;
+    }
+    if s[e] != 0xF7 {
+        return false;
+    }
+    reader::is_frame_shaped(&s[start..e + 1], kind)
+}
+
+// Outside a frame: the first place from `at` on where a frame begins, or the end. An F0 is passed to the reading inside.
+fn read_outside(stream: &&[u8], kind: Kind, at: usize) -> usize
+    requires { ⌜ (at ≤ length (now (now stream))) × (length (now (now stream)) ≤ 65535) ⌝ }
+    ensures { λ r. ⌜ r ≡ at + next (is-frame kind) (drop at (now (now (stream .entry)))) ⌝ }
+{
+    let i = next_f0(stream, at);
+    if i < stream.len() {
+        read_inside(stream, kind, i)
+    } else {
+        i
+    }
+}
+
+// Inside, from the F0 at `start`: the same from there on. What ends the stretch, if it is no frame, is passed to the reading outside.
+fn read_inside(stream: &&[u8], kind: Kind, start: usize) -> usize
+    requires { ⌜ (start < length (now (now stream))) × (length (now (now stream)) ≤ 65535) × (getD (now (now stream)) start 0 ≡ 0xF0) ⌝ }
+    ensures { λ r. ⌜ r ≡ start + next (is-frame kind) (drop start (now (now (stream .entry)))) ⌝ }
+{
+    let e = next_high(stream, start + 1);
+    if frame_at(stream, kind, start, e) {
+        start
+    } else {
+        read_outside(stream, kind, e)
+    }
+}
+
+// Puts the pairs of the frames, as far as the index has room, and counts the frames.
+fn list(stream: &[u8], kind: Kind, index: &mut [u32]) -> usize
+    requires { ⌜ length (now stream) ≤ 65535 ⌝ }
+    ensures counted { λ r. ⌜ r ≡ length (frames kind (now (stream .entry))) ⌝ }
+    ensures few { λ r. ⌜ r * 6 ≤ length (now (stream .entry)) ⌝ }
+    ensures listed { λ _. ⌜ now (index .exit) ≡ put-all (now (index .entry)) 0 (frames kind (now (stream .entry))) ⌝ }
+{
+    let mut n: usize = 0;
+    let mut at = read_outside(&stream, kind, 0);
+    while at < stream.len() {
+        let e = high_from(stream, at + 1);
+        put_pair(index, n, at as u32, (e + 1 - at) as u32);
+        n += 1;
+        at = read_outside(&stream, kind, e + 1);
+    }
+    n
+}
+
+// Lists the frames of a stream for a kind of sound file; counts them first where the index may have too few pairs.
+pub fn walk(stream: &[u8], kind: Kind, index: &mut [u32]) -> Walked
+    ensures { λ r. ⌜ WalkMet r kind (now (stream .entry)) (now (index .entry)) (now (index .exit)) ⌝ }
+{
+    if 65535 < stream.len() {
+        return Walked::Refused(Refusal::Stream, 0);
+    }
+    let room = index.len() / 2;
+    if stream.len() / 6 <= room {
+        return Walked::Frames(list(stream, kind, index));
+    }
+    let n = list(stream, kind, &mut index[..0]);
+    if room < n {
+        return Walked::Refused(Refusal::Index, n);
+    }
+    list(stream, kind, index);
+    Walked::Frames(n)
+}
