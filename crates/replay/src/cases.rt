@@ -4,6 +4,7 @@ use super::floats;
 use super::readings;
 use super::readings::Expected;
 use super::tries;
+use super::walks;
 use messages::system_exclusive::DeviceID;
 use messages::system_exclusive::UniversalNonRealTimeMsg;
 use numbers::Made;
@@ -268,6 +269,25 @@ fn replay_read(s: &[u8], e: Extents, entries: &mut [u64], out: &mut [u8]) -> Ver
     replay_lent(s, e, v[0], v[1], v[2], entries, out)
 }
 
+// Replays a walk.
+fn replay_walk(s: &[u8], e: Extents) -> Verdict
+    requires { ⌜ Inside e (length (now s)) ⌝ }
+{
+    let numbers = e.numbers;
+    let entries = e.out_entries;
+    if numbers.count != 2 {
+        return Verdict::Malformed;
+    }
+    let v = numbers_of(s, e);
+    if 1 < v[0] {
+        return Verdict::Malformed;
+    }
+    if walks::MOST < v[1] {
+        return Verdict::Malformed;
+    }
+    judged(walks::is_walked(text_of(s, e), v[0], v[1], e.refusal, e.value, s, entries.start, entries.count))
+}
+
 // Replays an identity reading.
 fn replay_identity(s: &[u8], e: Extents) -> Verdict
     requires { ⌜ Inside e (length (now s)) ⌝ }
@@ -283,9 +303,6 @@ fn replay_identity(s: &[u8], e: Extents) -> Verdict
 
 // Whether cases of an op are replayed.
 pub fn is_replayed(op: u8) -> bool {
-    if op == 3 {
-        return false;
-    }
     1 <= op && op <= 7
 }
 
@@ -298,6 +315,9 @@ pub fn replay_case(s: &[u8], e: Extents, entries: &mut [u64], out: &mut [u8]) ->
     }
     if e.op == 2 {
         return replay_read(s, e, entries, out);
+    }
+    if e.op == 3 {
+        return replay_walk(s, e);
     }
     if e.op == 4 {
         return replay_identity(s, e);

@@ -9,6 +9,7 @@ mod readings;
 mod sample_numbers;
 mod settled;
 mod tries;
+mod walks;
 
 use files::Tally;
 
