@@ -19,7 +19,13 @@ fn kind_of(code: u64, form: u64) -> Kind {
 }
 
 // Whether a message is written as the frame.
-fn is_again(device: DeviceID, m: UniversalNonRealTimeMsg, text: &[u8], entries: &[u64], frame: &[u8]) -> bool {
+fn is_again(
+    device: DeviceID,
+    m: UniversalNonRealTimeMsg,
+    text: &[u8],
+    entries: &[u64],
+    frame: &[u8],
+) -> bool {
     let mut out = [0u8; 2048];
     match writer::write(device, m, text, entries, &mut out, 0) {
         Written::Frame(n) => {

@@ -234,7 +234,15 @@ fn expected_of(s: &[u8], e: Extents) -> Expected
 }
 
 // Replays a reading with x places lent for file data and y for entries.
-fn replay_lent(s: &[u8], e: Extents, kind: u64, x: u64, y: u64, entries: &mut [u64], out: &mut [u8]) -> Verdict
+fn replay_lent(
+    s: &[u8],
+    e: Extents,
+    kind: u64,
+    x: u64,
+    y: u64,
+    entries: &mut [u64],
+    out: &mut [u8],
+) -> Verdict
     requires { ⌜ Inside e (length (now s)) × (e .«out_numbers» .count ≤ 16) ⌝ }
 {
     if (out.len() as u64) < x {
@@ -247,7 +255,15 @@ fn replay_lent(s: &[u8], e: Extents, kind: u64, x: u64, y: u64, entries: &mut [u
     let bytes = bytes_of(s, e);
     let a = x as usize;
     let b = y as usize;
-    judged(readings::is_read(frame, kind, bytes, s, expected_of(s, e), &mut out[0..a], &mut entries[0..b]))
+    judged(readings::is_read(
+        frame,
+        kind,
+        bytes,
+        s,
+        expected_of(s, e),
+        &mut out[0..a],
+        &mut entries[0..b],
+    ))
 }
 
 // Replays a reading.
@@ -285,7 +301,16 @@ fn replay_walk(s: &[u8], e: Extents) -> Verdict
     if walks::MOST < v[1] {
         return Verdict::Malformed;
     }
-    judged(walks::is_walked(text_of(s, e), v[0], v[1], e.refusal, e.value, s, entries.start, entries.count))
+    judged(walks::is_walked(
+        text_of(s, e),
+        v[0],
+        v[1],
+        e.refusal,
+        e.value,
+        s,
+        entries.start,
+        entries.count,
+    ))
 }
 
 // Replays an identity reading.

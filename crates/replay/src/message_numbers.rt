@@ -15,9 +15,15 @@ use messages::system_exclusive::DeviceID;
 use messages::system_exclusive::IdentityReply;
 use messages::system_exclusive::ManufacturerID;
 use messages::system_exclusive::UniversalNonRealTimeMsg;
+use messages::tuning::KeyBasedTuningDump;
 use messages::tuning::Scale1Byte;
 use messages::tuning::Scale2Byte;
+use messages::tuning::ScaleTuning1Byte;
+use messages::tuning::ScaleTuning2Byte;
+use messages::tuning::ScaleTuningDump1Byte;
+use messages::tuning::ScaleTuningDump2Byte;
 use messages::tuning::TuningBank;
+use messages::tuning::TuningNoteChange;
 
 // The three numbers of a maker: form, and one or two bytes.
 struct Maker {
@@ -26,7 +32,8 @@ struct Maker {
     second: u64,
 }
 
-fn maker(id: ManufacturerID) -> Maker {
+// The numbers of a maker.
+fn maker_of(id: ManufacturerID) -> Maker {
     match id {
         ManufacturerID::OneByte(b) => Maker {
             form: 0,
@@ -43,7 +50,9 @@ fn maker(id: ManufacturerID) -> Maker {
 
 // The numbers of an identity reply, from the maker on.
 pub fn reply(r: IdentityReply) -> Numbers {
-    let m = maker(r.id);
+    let id = r.id;
+    let m = maker_of(id);
+    let v = r.software_revision;
     Numbers {
         values: [
             m.form,
@@ -51,10 +60,10 @@ pub fn reply(r: IdentityReply) -> Numbers {
             m.second,
             r.family as u64,
             r.family_member as u64,
-            r.software_revision.first as u64,
-            r.software_revision.second as u64,
-            r.software_revision.third as u64,
-            r.software_revision.fourth as u64,
+            v.first as u64,
+            v.second as u64,
+            v.third as u64,
+            v.fourth as u64,
             0,
             0,
             0,
@@ -72,7 +81,24 @@ fn identity(r: IdentityReply, d: u64) -> Numbers {
     let n = reply(r);
     let v = n.values;
     Numbers {
-        values: [0x0602, d, v[0], v[1], v[2], v[3], v[4], v[5], v[6], v[7], v[8], 0, 0, 0, 0, 0],
+        values: [
+            0x0602,
+            d,
+            v[0],
+            v[1],
+            v[2],
+            v[3],
+            v[4],
+            v[5],
+            v[6],
+            v[7],
+            v[8],
+            0,
+            0,
+            0,
+            0,
+            0,
+        ],
         count: 11,
     }
 }
@@ -128,17 +154,60 @@ fn banked(a: u64, b: u64, d: u64, bank: TuningBank, program: u64) -> Numbers {
 
 // Twelve values after the head code, the device and as many more numbers as count says beyond fourteen.
 fn scale_1(s: Scale1Byte) -> [u64; 12] {
-    [signed_8(s.c), signed_8(s.c_sharp), signed_8(s.d), signed_8(s.d_sharp), signed_8(s.e), signed_8(s.f), signed_8(s.f_sharp), signed_8(s.g), signed_8(s.g_sharp), signed_8(s.a), signed_8(s.a_sharp), signed_8(s.b)]
+    [
+        signed_8(s.c),
+        signed_8(s.c_sharp),
+        signed_8(s.d),
+        signed_8(s.d_sharp),
+        signed_8(s.e),
+        signed_8(s.f),
+        signed_8(s.f_sharp),
+        signed_8(s.g),
+        signed_8(s.g_sharp),
+        signed_8(s.a),
+        signed_8(s.a_sharp),
+        signed_8(s.b),
+    ]
 }
 
 fn scale_2(s: Scale2Byte) -> [u64; 12] {
-    [signed(s.c), signed(s.c_sharp), signed(s.d), signed(s.d_sharp), signed(s.e), signed(s.f), signed(s.f_sharp), signed(s.g), signed(s.g_sharp), signed(s.a), signed(s.a_sharp), signed(s.b)]
+    [
+        signed(s.c),
+        signed(s.c_sharp),
+        signed(s.d),
+        signed(s.d_sharp),
+        signed(s.e),
+        signed(s.f),
+        signed(s.f_sharp),
+        signed(s.g),
+        signed(s.g_sharp),
+        signed(s.a),
+        signed(s.a_sharp),
+        signed(s.b),
+    ]
 }
 
 // A scale dump.
 fn dump(code: u64, d: u64, bank: u64, program: u64, s: [u64; 12]) -> Numbers {
     Numbers {
-        values: [code, d, bank, program, s[0], s[1], s[2], s[3], s[4], s[5], s[6], s[7], s[8], s[9], s[10], s[11]],
+        values: [
+            code,
+            d,
+            bank,
+            program,
+            s[0],
+            s[1],
+            s[2],
+            s[3],
+            s[4],
+            s[5],
+            s[6],
+            s[7],
+            s[8],
+            s[9],
+            s[10],
+            s[11],
+        ],
         count: 16,
     }
 }
@@ -146,7 +215,24 @@ fn dump(code: u64, d: u64, bank: u64, program: u64, s: [u64; 12]) -> Numbers {
 // A scale of channels.
 fn channels(code: u64, d: u64, set: u64, s: [u64; 12]) -> Numbers {
     Numbers {
-        values: [code, d, set, s[0], s[1], s[2], s[3], s[4], s[5], s[6], s[7], s[8], s[9], s[10], s[11], 0],
+        values: [
+            code,
+            d,
+            set,
+            s[0],
+            s[1],
+            s[2],
+            s[3],
+            s[4],
+            s[5],
+            s[6],
+            s[7],
+            s[8],
+            s[9],
+            s[10],
+            s[11],
+            0,
+        ],
         count: 15,
     }
 }
@@ -200,7 +286,24 @@ fn map(m: SelectMap) -> [u64; 10] {
 fn select(ctx: u64, d: u64, m: SelectMap) -> Numbers {
     let v = map(m);
     Numbers {
-        values: [0x0B02, d, ctx, v[0], v[1], v[2], v[3], v[4], v[5], v[6], v[7], v[8], v[9], 0, 0, 0],
+        values: [
+            0x0B02,
+            d,
+            ctx,
+            v[0],
+            v[1],
+            v[2],
+            v[3],
+            v[4],
+            v[5],
+            v[6],
+            v[7],
+            v[8],
+            v[9],
+            0,
+            0,
+            0,
+        ],
         count: 13,
     }
 }
@@ -209,7 +312,24 @@ fn select(ctx: u64, d: u64, m: SelectMap) -> Numbers {
 fn open_select(ctx: u64, d: u64, kind: u64, m: SelectMap) -> Numbers {
     let v = map(m);
     Numbers {
-        values: [0x0B03, d, ctx, kind, v[0], v[1], v[2], v[3], v[4], v[5], v[6], v[7], v[8], v[9], 0, 0],
+        values: [
+            0x0B03,
+            d,
+            ctx,
+            kind,
+            v[0],
+            v[1],
+            v[2],
+            v[3],
+            v[4],
+            v[5],
+            v[6],
+            v[7],
+            v[8],
+            v[9],
+            0,
+            0,
+        ],
         count: 14,
     }
 }
@@ -218,21 +338,78 @@ fn open_select(ctx: u64, d: u64, kind: u64, m: SelectMap) -> Numbers {
 fn reference(m: FileReferenceMsg, d: u64) -> Numbers {
     match m {
         FileReferenceMsg::Open { ctx, file_type } => {
-            two(0x0B01, d, ctx as u64, sample_numbers::reference_number(file_type))
+            two(
+                0x0B01,
+                d,
+                ctx as u64,
+                sample_numbers::reference_number(file_type),
+            )
         }
         FileReferenceMsg::SelectContents { ctx, map } => select(ctx as u64, d, map),
         FileReferenceMsg::OpenSelectContents {
             ctx,
             file_type,
             map,
-        } => open_select(ctx as u64, d, sample_numbers::reference_number(file_type), map),
+        } => open_select(
+            ctx as u64,
+            d,
+            sample_numbers::reference_number(file_type),
+            map,
+        ),
         FileReferenceMsg::Close { ctx } => one(0x0B04, d, ctx as u64),
     }
 }
 
-// A note change of a bank or of none.
-fn change(d: u64, bank: TuningBank, program: u64) -> Numbers {
-    two(0x0807, d, sample_numbers::bank_number(bank), program)
+// A key dump.
+fn keys(k: KeyBasedTuningDump, d: u64) -> Numbers {
+    let bank = k.tuning_bank_num;
+    banked(0x0801, 0x0804, d, bank, k.tuning_program_num as u64)
+}
+
+// A note change.
+fn change(c: TuningNoteChange, d: u64) -> Numbers {
+    let bank = c.tuning_bank_num;
+    two(
+        0x0807,
+        d,
+        sample_numbers::bank_number(bank),
+        c.tuning_program_num as u64,
+    )
+}
+
+// Scale dumps and scales of channels.
+fn dump_1(s: ScaleTuningDump1Byte, d: u64) -> Numbers {
+    let scale = s.tuning;
+    dump(
+        0x0805,
+        d,
+        s.tuning_bank_num as u64,
+        s.tuning_program_num as u64,
+        scale_1(scale),
+    )
+}
+
+fn dump_2(s: ScaleTuningDump2Byte, d: u64) -> Numbers {
+    let scale = s.tuning;
+    dump(
+        0x0806,
+        d,
+        s.tuning_bank_num as u64,
+        s.tuning_program_num as u64,
+        scale_2(scale),
+    )
+}
+
+fn channels_1(s: ScaleTuning1Byte, d: u64) -> Numbers {
+    let set = s.channels;
+    let scale = s.tuning;
+    channels(0x0808, d, set.channels as u64, scale_1(scale))
+}
+
+fn channels_2(s: ScaleTuning2Byte, d: u64) -> Numbers {
+    let set = s.channels;
+    let scale = s.tuning;
+    channels(0x0809, d, set.channels as u64, scale_2(scale))
 }
 
 // The numbers of a message.
@@ -247,19 +424,19 @@ pub fn numbers_of(device: DeviceID, m: UniversalNonRealTimeMsg) -> Numbers {
         UniversalNonRealTimeMsg::TuningBulkDumpRequest {
             tuning_bank_num,
             tuning_program_num,
-        } => banked(0x0800, 0x0803, d, tuning_bank_num, tuning_program_num as u64),
-        UniversalNonRealTimeMsg::KeyBasedTuningDump(k) => {
-            banked(0x0801, 0x0804, d, k.tuning_bank_num, k.tuning_program_num as u64)
-        }
-        UniversalNonRealTimeMsg::ScaleTuningDump1Byte(s) => {
-            dump(0x0805, d, s.tuning_bank_num as u64, s.tuning_program_num as u64, scale_1(s.tuning))
-        }
-        UniversalNonRealTimeMsg::ScaleTuningDump2Byte(s) => {
-            dump(0x0806, d, s.tuning_bank_num as u64, s.tuning_program_num as u64, scale_2(s.tuning))
-        }
-        UniversalNonRealTimeMsg::TuningNoteChange(c) => change(d, c.tuning_bank_num, c.tuning_program_num as u64),
-        UniversalNonRealTimeMsg::ScaleTuning1Byte(s) => channels(0x0808, d, s.channels.channels as u64, scale_1(s.tuning)),
-        UniversalNonRealTimeMsg::ScaleTuning2Byte(s) => channels(0x0809, d, s.channels.channels as u64, scale_2(s.tuning)),
+        } => banked(
+            0x0800,
+            0x0803,
+            d,
+            tuning_bank_num,
+            tuning_program_num as u64,
+        ),
+        UniversalNonRealTimeMsg::KeyBasedTuningDump(k) => keys(k, d),
+        UniversalNonRealTimeMsg::ScaleTuningDump1Byte(s) => dump_1(s, d),
+        UniversalNonRealTimeMsg::ScaleTuningDump2Byte(s) => dump_2(s, d),
+        UniversalNonRealTimeMsg::TuningNoteChange(c) => change(c, d),
+        UniversalNonRealTimeMsg::ScaleTuning1Byte(s) => channels_1(s, d),
+        UniversalNonRealTimeMsg::ScaleTuning2Byte(s) => channels_2(s, d),
         UniversalNonRealTimeMsg::GeneralMidi(g) => midi(g, d),
         UniversalNonRealTimeMsg::FileReference(x) => reference(x, d),
         UniversalNonRealTimeMsg::EOF => none(0x7B00, d),

@@ -135,7 +135,15 @@ pub struct Expected {
 }
 
 // Whether an answer is the one of the case, and the lent space too.
-fn is_answer(r: Reading, frame: &[u8], bytes: &[u8], s: &[u8], x: Expected, data: &[u8], entries: &[u64]) -> bool
+fn is_answer(
+    r: Reading,
+    frame: &[u8],
+    bytes: &[u8],
+    s: &[u8],
+    x: Expected,
+    data: &[u8],
+    entries: &[u64],
+) -> bool
     requires { ⌜ x .start + 8 * x .places ≤ length (now s) ⌝ }
 {
     match r {
@@ -167,7 +175,15 @@ fn is_answer(r: Reading, frame: &[u8], bytes: &[u8], s: &[u8], x: Expected, data
 }
 
 // Reads a frame with so many places lent, and holds the answer to the case.
-pub fn is_read(frame: &[u8], kind: u64, bytes: &[u8], s: &[u8], x: Expected, data: &mut [u8], entries: &mut [u64]) -> bool
+pub fn is_read(
+    frame: &[u8],
+    kind: u64,
+    bytes: &[u8],
+    s: &[u8],
+    x: Expected,
+    data: &mut [u8],
+    entries: &mut [u64],
+) -> bool
     requires { ⌜ x .start + 8 * x .places ≤ length (now s) ⌝ }
 {
     tries::fill(data);
@@ -179,7 +195,8 @@ pub fn is_read(frame: &[u8], kind: u64, bytes: &[u8], s: &[u8], x: Expected, dat
 // Whether identity bytes are read as the case says.
 pub fn is_identity(bytes: &[u8], refusal: u8, values: &[u64; 16], count: usize) -> bool {
     match UniversalNonRealTimeMsg::from_midi(bytes) {
-        IdentityReading::Reply(r) => refusal == 0 && is_numbers(message_numbers::reply(r), values, count),
+        IdentityReading::Reply(r) => refusal == 0
+            && is_numbers(message_numbers::reply(r), values, count),
         IdentityReading::Refused(n) => n.number() == refusal,
     }
 }

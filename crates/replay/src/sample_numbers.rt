@@ -15,22 +15,22 @@ pub struct Numbers {
     pub count: usize,
 }
 
-// A number in two's complement of 64 bits.
-pub fn signed(x: i16) -> u64 {
-    if x < 0 {
-        18446744073709551615 - (-1 - x) as u64
-    } else {
-        x as u64
+// A biased number without its bias, in two's complement of 64 bits.
+fn unbiased(b: u64, bias: u64) -> u64 {
+    if bias <= b {
+        return b - bias;
     }
+    u64::MAX - (bias - b) + 1
 }
 
-// The same of eight bits.
+// A number of 14 bits, in two's complement of 64 bits.
+pub fn signed(x: i16) -> u64 {
+    unbiased(util::signed::i_to_u14(x) as u64, 8192)
+}
+
+// A number of seven bits, in two's complement of 64 bits.
 pub fn signed_8(x: i8) -> u64 {
-    if x < 0 {
-        18446744073709551615 - (-1 - x) as u64
-    } else {
-        x as u64
-    }
+    unbiased(util::signed::i_to_u7(x) as u64, 64)
 }
 
 // A flag as 0 or 1.
@@ -198,7 +198,24 @@ pub fn sample(m: SampleDumpMsg, d: u64) -> Numbers {
 // The points of a loop.
 fn points(code: u64, d: u64, sample: u64, number: u64, kind: u64, start: u64, end: u64) -> Numbers {
     Numbers {
-        values: [code, d, sample, number, kind, start, end, 0, 0, 0, 0, 0, 0, 0, 0, 0],
+        values: [
+            code,
+            d,
+            sample,
+            number,
+            kind,
+            start,
+            end,
+            0,
+            0,
+            0,
+            0,
+            0,
+            0,
+            0,
+            0,
+            0,
+        ],
         count: 7,
     }
 }
@@ -207,7 +224,11 @@ fn points(code: u64, d: u64, sample: u64, number: u64, kind: u64, start: u64, en
 pub fn extended(m: ExtendedSampleDumpMsg, d: u64) -> Numbers {
     match m {
         ExtendedSampleDumpMsg::SampleName { sample_num } => one(0x0503, d, sample_num as u64),
-        ExtendedSampleDumpMsg::SampleNameRequest { sample_num } => one(0x0504, d, sample_num as u64),
+        ExtendedSampleDumpMsg::SampleNameRequest { sample_num } => one(
+            0x0504,
+            d,
+            sample_num as u64,
+        ),
         ExtendedSampleDumpMsg::Header {
             sample_num,
             format,

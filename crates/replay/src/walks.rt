@@ -34,13 +34,18 @@ fn is_kept(index: &[u32], from: usize) -> bool {
     true
 }
 
+// A number of an index.
+fn wide(x: u32) -> u64 {
+    x as u64
+}
+
 // Whether an index begins with the numbers that stand in a slice from a place on.
 fn are_numbers(index: &[u32], count: usize, s: &[u8], start: usize) -> bool
     requires { ⌜ (count ≤ length (now index)) × (start + 8 * count ≤ length (now s)) ⌝ }
 {
     let mut i = 0;
     while i < count {
-        if index[i] as u64 != little::u64_at(s, start + 8 * i) {
+        if wide(index[i]) != little::u64_at(s, start + 8 * i) {
             return false;
         }
         i += 1;
@@ -113,5 +118,14 @@ pub fn is_walked(
         return false;
     }
     let n = pairs as usize * 2 + 1;
-    is_walked_in(stream, kind, refusal, value, s, start, count, &mut index[0..n])
+    is_walked_in(
+        stream,
+        kind,
+        refusal,
+        value,
+        s,
+        start,
+        count,
+        &mut index[0..n],
+    )
 }

@@ -1,10 +1,10 @@
 // Handshake messages: frames of six bytes.
 use crate::Written;
-use util::refusal::Refusal;
 use messages::system_exclusive::DeviceID;
 use messages::system_exclusive::UniversalNonRealTimeMsg;
 use util::bytes;
 use util::groups;
+use util::refusal::Refusal;
 ghost use mathlib.Core.Path.{_≡_};
 ghost use Prim.Native.Nat.{_≤_};
 ghost use lib.ListN.{length};

@@ -1,0 +1,63 @@
+-- `replay::readings::are_entries` is safe and ends. The measure is what is left up to the count.
+-- Assumes nothing.
+use Prim.Native.Nat.{_-_}
+use borrow.Author.Needs.{needs}
+use Rattle.replay.proofs.readings.are_entries.Statement.{statement}
+use Rattle.replay.proofs.readings.are_entries.Tie as tie
+
+abbrev Inv-loop : tie.InvT-loop
+Inv-loop out count s start i₀ i = Unit {0}
+
+abbrev μ-loop : tie.MeasureT-loop
+μ-loop out count s start i₀ i = count - i
+
+loop-holds : tie.Need-loop-holds Inv-loop μ-loop
+loop-holds c = search needs
+
+mul-if1 : tie.Need-mul-if1 Inv-loop μ-loop
+mul-if1 c = search needs
+
+shared-slice-read-if1 : tie.Need-shared-slice-read-if1 Inv-loop μ-loop
+shared-slice-read-if1 c = search needs
+
+mul-u64-at : tie.Need-mul-u64-at Inv-loop μ-loop
+mul-u64-at c = search needs
+
+add-u64-at : tie.Need-add-u64-at Inv-loop μ-loop
+add-u64-at c = search needs
+
+u64-at-requires : tie.Need-u64-at-requires Inv-loop μ-loop
+u64-at-requires c κs = search needs
+
+returns : tie.Need-returns Inv-loop μ-loop
+returns c = search needs
+
+add-i : tie.Need-add-i Inv-loop μ-loop
+add-i c = search needs
+
+loop-less : tie.Need-loop-less Inv-loop μ-loop
+loop-less c = search needs
+
+loop-again : tie.Need-loop-again Inv-loop μ-loop
+loop-again c = search needs
+
+returns-2 : tie.Need-returns-2 Inv-loop μ-loop
+returns-2 c = search needs
+
+pub are-entries-spec : {M : Type 1} → statement M
+are-entries-spec =
+    tie.close
+    (tie.spec
+    Inv-loop
+    μ-loop
+    loop-holds
+    mul-if1
+    shared-slice-read-if1
+    mul-u64-at
+    add-u64-at
+    u64-at-requires
+    returns
+    add-i
+    loop-less
+    loop-again
+    returns-2)
