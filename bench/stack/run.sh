@@ -13,7 +13,7 @@ for part in rlib stamp; do
 done
 mkdir -p "$work/port/crates/stack/src"
 cp "$here/bench/stack/stack.rt.txt" "$work/port/crates/stack/src/lib.rt"
-{ cat "$here/crates.txt"; echo 'stack: util messages walk'; } > "$work/port/crates.txt"
+{ cat "$here/crates.txt"; echo 'stack: util messages reader walk'; } > "$work/port/crates.txt"
 (cd "$work/port" && rt staticlib stack > "$work/log" 2>&1) || { tail -20 "$work/log"; exit 1; }
 cc -O2 "$here/bench/stack/stack.c" -o "$work/stack" -L "$work/port/target/staticlib" -lstack
 (ulimit -s 64 && "$work/stack")
