@@ -27,7 +27,7 @@ mkdir "$work/port"
 cp -r "$here/crates" "$work/port/crates"
 mkdir -p "$work/port/crates/timing/src"
 cp "$here/bench/timing.rt.txt" "$work/port/crates/timing/src/lib.rt"
-{ cat "$here/crates.txt"; echo 'timing: messages writer'; } > "$work/port/crates.txt"
+{ cat "$here/crates.txt"; echo 'timing: util messages writer'; } > "$work/port/crates.txt"
 (cd "$work/port" && rt staticlib timing > "$work/log" 2>&1) || { tail -20 "$work/log"; exit 1; }
 
 rustc $release --edition 2024 --crate-name timing_write -L "$work/crate" --extern midi_msg="$work/crate/libmidi_msg.rlib" \
