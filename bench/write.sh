@@ -1,12 +1,10 @@
 #!/usr/bin/env bash
-# bench/run.sh ORACLE SOURCES: times this writer and the crate's in one run.
+# bench/write.sh ORACLE SOURCES: times this writer and the crate's in one run.
 # ORACLE is the folder with the oracle's build.sh, SOURCES the folder with the crate's source files.
 set -eu
 oracle=$(cd "${1:?the oracle, a folder with build.sh}" && pwd)
 sources=$(cd "${2:?the folder of the crate source files}" && pwd)
-here=$(cd "$(dirname "$0")/.." && pwd)
-work=$(mktemp -d)
-trap 'rm -rf "$work"' EXIT
+. "$(dirname "$0")/archive.sh"
 release="-C opt-level=3 -C debug-assertions=off -C overflow-checks=off"
 
 # the crate, with one public function more that writes into a Vec that is kept
@@ -22,14 +20,7 @@ R
 (cd "$work/crate" && rustc $release --edition 2024 --crate-type rlib --crate-name midi_msg -A unexpected_cfgs \
     --cfg 'feature="sysex"' --extern bstr=libbstr.rlib --extern micromath=libmicromath.rlib src/lib.rs)
 
-# this writer, as an archive
-mkdir "$work/port"
-cp -r "$here/crates" "$work/port/crates"
-mkdir -p "$work/port/crates/timing/src"
-cp "$here/bench/timing.rt.txt" "$work/port/crates/timing/src/lib.rt"
-{ cat "$here/crates.txt"; echo 'timing: util messages writer'; } > "$work/port/crates.txt"
-(cd "$work/port" && rt staticlib timing > "$work/log" 2>&1) || { tail -20 "$work/log"; exit 1; }
-
+archive writing util messages writer
 rustc $release --edition 2024 --crate-name timing_write -L "$work/crate" --extern midi_msg="$work/crate/libmidi_msg.rlib" \
-    --extern bstr="$work/crate/libbstr.rlib" "$here/bench/write.rs" -o "$work/write" -L "$work/port/target/staticlib" -l static=timing
+    --extern bstr="$work/crate/libbstr.rlib" "$here/bench/write.rs" -o "$work/write" -L "$work" -l static=timed
 "$work/write"
