@@ -1,4 +1,4 @@
-// A message as numbers, both ways: head code, device, then the fields of the head.
+// The message that numbers say: head code, device, then the fields of the head.
 use fit::NumberType;
 use messages::system_exclusive::DeviceID;
 use messages::system_exclusive::UniversalNonRealTimeMsg;

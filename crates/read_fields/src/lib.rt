@@ -3,8 +3,10 @@ use messages::head::Head;
 use read_sample_dump::extended_sample_dump;
 use read_sample_dump::sample_dump;
 use reading::Found;
+ghost use mathlib.Core.Path.{_≡_};
 ghost use Rattle.util.specs.Groups.{Seven};
-ghost use Rattle.reading.specs.Found.{Reads};
+ghost use Rattle.messages.specs.Layouts.{form};
+ghost use Rattle.reading.specs.Found.{Reads, is-read};
 
 // What the fields under a head say.
 pub fn fields_of(h: Head, f: &[u8]) -> Found
@@ -49,5 +51,28 @@ pub fn fields_of(h: Head, f: &[u8]) -> Found
         Head::Cancel => read_system_exclusive::cancel(f),
         Head::NAK => read_system_exclusive::nak(f),
         Head::ACK => read_system_exclusive::ack(f),
+    }
+}
+
+// Whether the fields under a head are right, by what they say.
+fn says(h: Head, f: &[u8]) -> bool
+    requires { ⌜ Seven (now f) ⌝ }
+    ensures { λ r. ⌜ r ≡ is-read (form h .read (now (f .entry))) ⌝ }
+{
+    match fields_of(h, f) {
+        Found::Is { .. } => true,
+        Found::Nothing => false,
+    }
+}
+
+// Whether the fields under a head are right.
+pub fn is_valid(h: Head, f: &[u8]) -> bool
+    requires { ⌜ Seven (now f) ⌝ }
+    ensures { λ r. ⌜ r ≡ is-read (form h .read (now (f .entry))) ⌝ }
+{
+    match h {
+        Head::SampleDumpPacket => sample_dump::is_packet(f),
+        Head::KeyBasedTuningDump => read_tuning::is_key_dump(f),
+        _ => says(h, f),
     }
 }

@@ -1,22 +1,10 @@
-// The device and the type of a file dump.
+// The type of a file dump.
 use messages::file_dump::FileType;
-use messages::system_exclusive::DeviceID;
 ghost use mathlib.Core.Path.{_≡_};
 ghost use mathlib.Core.Bool.{_&&_};
 ghost use lib.Dec.{eqb};
-ghost use Rattle.messages.specs.Fields.{device-of, type-of};
+ghost use Rattle.messages.specs.Fields.{type-of};
 ghost use Rattle.read_file_dump.specs.Places.{type-at};
-
-// The device of a byte: 127 is all call.
-pub fn device_of(b: u8) -> DeviceID
-    ensures { λ r. ⌜ r ≡ device-of b ⌝ }
-{
-    if b == 127 {
-        DeviceID::AllCall
-    } else {
-        DeviceID::Device(b)
-    }
-}
 
 // Whether two pairs of letters are the same.
 fn same_two(x: u8, y: u8, a: u8, b: u8) -> bool

@@ -36,7 +36,7 @@ pub fn header(f: &[u8]) -> Found
     if MOST_NAME < n {
         return Found::Nothing;
     }
-    let sender_device = fields::device_of(util::groups::u7_at(f, 0));
+    let sender_device = reading::device_of(util::groups::u7_at(f, 0));
     let file_type = fields::type_at(f);
     let length = util::groups::u28_at(f, 5);
     header_of(sender_device, file_type, length, n)
@@ -71,7 +71,7 @@ pub fn request(f: &[u8]) -> Found
     if MOST_NAME < n {
         return Found::Nothing;
     }
-    let requester_device = fields::device_of(util::groups::u7_at(f, 0));
+    let requester_device = reading::device_of(util::groups::u7_at(f, 0));
     let file_type = fields::type_at(f);
     request_of(requester_device, file_type, n)
 }
@@ -104,7 +104,7 @@ pub fn packet(f: &[u8]) -> Found
     if MOST_DATA < n {
         return Found::Nothing;
     }
-    let c = packed::wide(util::groups::at(f, 1));
+    let c = reading::wide(util::groups::at(f, 1));
     if c != n + n / 7 {
         return Found::Nothing;
     }

@@ -6,13 +6,6 @@ ghost use Rattle.util.specs.Groups.{Seven};
 ghost use Rattle.util.specs.Splice.{front};
 ghost use Rattle.reading.specs.Places.{next-k, next-tops, data-byte, data-from, none-over};
 
-// A byte as a number of places.
-pub fn wide(b: u8) -> usize
-    ensures { λ r. ⌜ (r ≡ b) × (r ≤ 255) ⌝ }
-{
-    b as usize
-}
-
 // How many data bytes n packed bytes hold.
 pub fn data_size(n: usize) -> usize
     requires { ⌜ n < 2 ^ 63 ⌝ }

@@ -35,13 +35,6 @@ pub enum OffsetFound {
     Nothing,
 }
 
-// A byte as a number of places.
-fn wide(b: u8) -> usize
-    ensures { λ r. ⌜ (r ≡ b) × (r ≤ 255) ⌝ }
-{
-    b as usize
-}
-
 // Bit 0 of the flags: source drum.
 fn is_source(flags: u8) -> bool
     ensures { λ r. ⌜ r ≡ bits-of flags .0 ⌝ }
@@ -172,7 +165,7 @@ pub fn bank_map_at(f: &[u8], i: usize) -> Picked
     if length == 7 {
         return bank_offset_at(f, i);
     }
-    let n = wide(at(f, i));
+    let n = reading::wide(at(f, i));
     if length != 1 + 8 * n {
         return Picked::Nothing;
     }

@@ -18,7 +18,8 @@ ghost use lib.ListN.{length, getD};
 ghost use Rattle.util.specs.Groups.{Seven};
 ghost use Rattle.messages.specs.declared.head.Head.the-variants as head;
 ghost use Rattle.messages.specs.Structures.{loop-code};
-ghost use Rattle.reading.specs.Found.{Reads};
+ghost use Rattle.messages.specs.Layouts.{form};
+ghost use Rattle.reading.specs.Found.{Reads, is-read};
 
 // A sample dump header.
 pub fn header(f: &[u8]) -> Found
@@ -64,6 +65,26 @@ fn header_of(f: &[u8], t: LoopType) -> Found
     }
 }
 
+// Whether bytes are the fields of a sample dump header.
+pub fn is_header(f: &[u8]) -> bool
+    requires { ⌜ Seven (now f) ⌝ }
+    ensures { λ r. ⌜ r ≡ is-read (form head.SampleDumpHeader .read (now (f .entry))) ⌝ }
+{
+    if f.len() != 16 {
+        return false;
+    }
+    if f[2] < 8 {
+        return false;
+    }
+    if 28 < f[2] {
+        return false;
+    }
+    if f[15] < 2 {
+        return true;
+    }
+    f[15] == 127
+}
+
 // A packet of 120 sample bytes.
 pub fn packet(f: &[u8]) -> Found
     requires { ⌜ Seven (now f) ⌝ }
@@ -81,6 +102,14 @@ pub fn packet(f: &[u8]) -> Found
         at: 0,
         count: 0,
     }
+}
+
+// Whether bytes are the fields of a packet.
+pub fn is_packet(f: &[u8]) -> bool
+    requires { ⌜ Seven (now f) ⌝ }
+    ensures { λ r. ⌜ r ≡ is-read (form head.SampleDumpPacket .read (now (f .entry))) ⌝ }
+{
+    f.len() == 121
 }
 
 // A request for a sample.

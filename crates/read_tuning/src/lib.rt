@@ -23,7 +23,8 @@ ghost use Rattle.util.specs.Splice.{front};
 ghost use Rattle.util.specs.Channels.{channels-of};
 ghost use Rattle.messages.specs.declared.head.Head.the-variants as head;
 ghost use Rattle.reading.specs.Places.{value-at, tuning-entries, change-entries};
-ghost use Rattle.reading.specs.Found.{Reads};
+ghost use Rattle.messages.specs.Layouts.{form};
+ghost use Rattle.reading.specs.Found.{Reads, is-read};
 ghost use Rattle.read_tuning.specs.Scales.{scale-1-at, scale-2-at};
 
 // 08 00: the program.
@@ -84,6 +85,14 @@ pub fn key_dump(f: &[u8]) -> Found
         at: 17,
         count: 128,
     }
+}
+
+// Whether bytes are the fields of 08 01.
+pub fn is_key_dump(f: &[u8]) -> bool
+    requires { ⌜ Seven (now f) ⌝ }
+    ensures { λ r. ⌜ r ≡ is-read (form head.KeyBasedTuningDump .read (now (f .entry))) ⌝ }
+{
+    f.len() == 401
 }
 
 // 08 04: bank, program, 16 name bytes, 128 tunings.

@@ -1,46 +1,60 @@
 // Reads a frame: what it is, without writing; then its file data and entries into lent space.
 pub mod body;
 pub mod lent;
+mod opening;
+mod test;
 
 use body::Body;
 use lent::Reading;
 use messages::file_reference::Kind;
+use opening::Opening;
 use util::refusal::Refusal;
 ghost use mathlib.Core.Path.{_≡_};
 ghost use mathlib.Core.Option.{some};
 ghost use lib.ListN.{take, drop};
 ghost use Rattle.messages.specs.Messages.{readOf, inside};
 ghost use Rattle.messages.specs.Walk.{is-frame};
+ghost use Rattle.reader.specs.Opening.{Opens};
 ghost use Rattle.reader.specs.Body.{Tells, inner};
 ghost use Rattle.reader.specs.Reading.{ReadMet};
 
-// What a frame of the right shape is, for a kind of sound file.
-fn examine_shaped(frame: &[u8], kind: Kind) -> Body
+// The opening of a frame of the right shape, for a kind of sound file.
+fn opening_shaped(frame: &[u8], kind: Kind) -> Opening
     requires { ⌜ inside (now frame) ≡ some (inner (now frame)) ⌝ }
-    ensures { λ r. ⌜ Tells r (inner (now (frame .entry))) (readOf kind (now (frame .entry))) ⌝ }
+    ensures { λ r. ⌜ Opens r (inner (now (frame .entry))) (readOf kind (now (frame .entry))) ⌝ }
 {
     let e = frame.len() - 1;
-    body::body_of(&frame[1..e], kind)
+    opening::opening_of(&frame[1..e], kind)
+}
+
+// The opening of a frame, for a kind of sound file.
+fn opening_in(frame: &[u8], kind: Kind) -> Opening
+    ensures { λ r. ⌜ Opens r (inner (now (frame .entry))) (readOf kind (now (frame .entry))) ⌝ }
+{
+    if frame.len() < 6 {
+        return Opening::Refused(Refusal::Shape);
+    }
+    let e = frame.len() - 1;
+    if frame[0] != 0xF0 {
+        return Opening::Refused(Refusal::Shape);
+    }
+    if frame[e] != 0xF7 {
+        return Opening::Refused(Refusal::Shape);
+    }
+    if util::bytes::is_seven(&frame[1..e]) {
+        opening_shaped(frame, kind)
+    } else {
+        Opening::Refused(Refusal::Shape)
+    }
 }
 
 // What a frame is, for a kind of sound file; nothing is written.
 pub fn examine(frame: &[u8], kind: Kind) -> Body
     ensures { λ r. ⌜ Tells r (inner (now (frame .entry))) (readOf kind (now (frame .entry))) ⌝ }
 {
-    if frame.len() < 6 {
-        return Body::Refused(Refusal::Shape);
-    }
-    let e = frame.len() - 1;
-    if frame[0] != 0xF0 {
-        return Body::Refused(Refusal::Shape);
-    }
-    if frame[e] != 0xF7 {
-        return Body::Refused(Refusal::Shape);
-    }
-    if util::bytes::is_seven(&frame[1..e]) {
-        examine_shaped(frame, kind)
-    } else {
-        Body::Refused(Refusal::Shape)
+    match opening_in(frame, kind) {
+        Opening::Fields { h, start, end, sum } => body::body_of(frame, h, start, end, sum),
+        Opening::Refused(n) => Body::Refused(n),
     }
 }
 
@@ -49,10 +63,8 @@ pub fn is_frame_shaped(stretch: &[u8], kind: Kind) -> bool
     requires { ⌜ inside (now stretch) ≡ some (inner (now stretch)) ⌝ }
     ensures { λ r. ⌜ r ≡ is-frame kind (now (stretch .entry)) ⌝ }
 {
-    match examine_shaped(stretch, kind) {
-        Body::Is { .. } => true,
-        Body::Refused(_) => false,
-    }
+    let e = stretch.len() - 1;
+    test::is_body(&stretch[1..e], kind)
 }
 
 // Whether a stretch is a frame for a kind of sound file.
@@ -69,32 +81,17 @@ pub fn is_frame(stretch: &[u8], kind: Kind) -> bool
 pub fn read(frame: &[u8], kind: Kind, data: &mut [u8], entries: &mut [u64]) -> Reading
     ensures { λ r. ⌜ ReadMet r (readOf kind (now (frame .entry))) (now (frame .entry)) (now («data» .entry)) (now («data» .exit)) (now (entries .entry)) (now (entries .exit)) ⌝ }
 {
-    match examine(frame, kind) {
-        Body::Is {
-            device,
-            m,
-            from,
-            len,
-            at,
-            count,
+    match opening_in(frame, kind) {
+        Opening::Fields { h, start, end, sum } => lent::read_part(
+            frame,
+            h,
             start,
             end,
-        } => {
-            let a = 1 + start;
-            let e = 1 + end;
-            lent::fill(
-                &frame[a..e],
-                device,
-                m,
-                a + from,
-                len,
-                at,
-                count,
-                data,
-                entries,
-            )
-        }
-        Body::Refused(n) => Reading::Refused(n),
+            sum,
+            data,
+            entries,
+        ),
+        Opening::Refused(n) => Reading::Refused(n),
     }
 }
 

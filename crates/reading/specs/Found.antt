@@ -1,5 +1,7 @@
 -- What a reader of fields has found is what the layout reads of them, whatever the device.
 use mathlib.Core.Path.{_≡_}
+use mathlib.Core.Bool.{Bool, true, false}
+use mathlib.Core.Option.{Option, none, some}
 use mathlib.Core.List.{List, []}
 use Prim.Native.Nat.{ℕ, _+_, _≤_}
 use lib.ListN.{length, take, drop}
@@ -125,3 +127,8 @@ within Nothing f = Unit {0}
 pub record Reads (h : Head) (r : Found) (f : List ℕ) : Type 0 where
   pub says : (d : DeviceID) → found-of d r f ≡ plain-answer d h (form h .read f)
   pub part : within r f
+
+-- whether a layout reads fields
+abbrev pub is-read : {A : Type 0} → Option A → Bool
+is-read none = false
+is-read (some a) = true

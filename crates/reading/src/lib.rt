@@ -1,7 +1,11 @@
 // What the fields of a frame say, and the entries of a list by place.
 pub mod heads;
 
+use messages::system_exclusive::DeviceID;
 use messages::system_exclusive::UniversalNonRealTimeMsg;
+ghost use mathlib.Core.Path.{_≡_};
+ghost use Prim.Native.Nat.{_≤_};
+ghost use Rattle.messages.specs.Fields.{device-of};
 
 // What fields say: a message, the part of them that its name, URL or sample bytes are, and where the list starts that goes to lent space, with
 // the number of places that it takes; or nothing.
@@ -14,4 +18,22 @@ pub enum Found {
         count: usize,
     },
     Nothing,
+}
+
+// The device of a byte.
+pub fn device_of(b: u8) -> DeviceID
+    ensures { λ r. ⌜ r ≡ device-of b ⌝ }
+{
+    if b == 127 {
+        DeviceID::AllCall
+    } else {
+        DeviceID::Device(b)
+    }
+}
+
+// A byte as a number of places.
+pub fn wide(b: u8) -> usize
+    ensures { λ r. ⌜ (r ≡ b) × (r ≤ 255) ⌝ }
+{
+    b as usize
 }

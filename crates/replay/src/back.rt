@@ -1,5 +1,4 @@
 // Op 1, read back: what was written is read, has the numbers of the settled form, and is written again alike.
-use super::message_numbers;
 use super::readings;
 use super::settled;
 use messages::file_reference::Kind;
@@ -76,7 +75,7 @@ pub fn reads_back(frame: &[u8], v: &[u64; 16], count: usize) -> bool {
             places,
         } => {
             let want = settled::settled(v);
-            if !readings::is_numbers(message_numbers::numbers_of(device, m), &want, count) {
+            if !readings::is_numbers(device, m, &want, count) {
                 return false;
             }
             let text = reader::part(frame, from, len);

@@ -1,11 +1,11 @@
 // Ops 2 and 4: a frame is read with lent space of a pattern, and identity bytes are read; each answer is held to the case.
 use super::cases::Verdict;
 use super::cases::judged;
-use super::message_numbers;
-use super::sample_numbers::Numbers;
 use super::tries;
 use messages::file_reference::Kind;
+use messages::system_exclusive::DeviceID;
 use messages::system_exclusive::IdentityReading;
+use messages::system_exclusive::IdentityReply;
 use messages::system_exclusive::UniversalNonRealTimeMsg;
 use reader::lent::Reading;
 use vectors::little;
@@ -24,12 +24,17 @@ fn is_same(a: &[u64; 16], b: &[u64; 16]) -> bool {
     true
 }
 
-// Whether numbers are those of a case: so many, and zeros behind them.
-pub fn is_numbers(n: Numbers, values: &[u64; 16], count: usize) -> bool {
-    if n.count != count {
+// Whether the numbers of a message are those of a case: so many, and zeros behind them.
+pub fn is_numbers(
+    device: DeviceID,
+    m: UniversalNonRealTimeMsg,
+    values: &[u64; 16],
+    count: usize,
+) -> bool {
+    let mut got = [0u64; 16];
+    if to_numbers::to_numbers(device, m, &mut got) != count {
         return false;
     }
-    let got = n.values;
     is_same(&got, values)
 }
 
@@ -163,7 +168,7 @@ fn is_answer(
             if entry_places(code, places) != x.places {
                 return false;
             }
-            if !is_numbers(message_numbers::numbers_of(device, m), &x.values, x.count) {
+            if !is_numbers(device, m, &x.values, x.count) {
                 return false;
             }
             if !is_left(data, entries, used, x.places, s, x.start) {
@@ -192,11 +197,47 @@ pub fn is_read(
     is_answer(r, frame, bytes, s, x, data, entries)
 }
 
+// Whether the numbers of an identity reply, from its maker on, are those of a case.
+fn is_reply(r: IdentityReply, v: &[u64; 16], count: usize) -> bool {
+    if count != 9 {
+        return false;
+    }
+    if v[14] != 0 {
+        return false;
+    }
+    if v[15] != 0 {
+        return false;
+    }
+    let want = [
+        0x0602,
+        0,
+        v[0],
+        v[1],
+        v[2],
+        v[3],
+        v[4],
+        v[5],
+        v[6],
+        v[7],
+        v[8],
+        v[9],
+        v[10],
+        v[11],
+        v[12],
+        v[13],
+    ];
+    is_numbers(
+        DeviceID::Device(0),
+        UniversalNonRealTimeMsg::IdentityReply(r),
+        &want,
+        11,
+    )
+}
+
 // Whether identity bytes are read as the case says.
 pub fn is_identity(bytes: &[u8], refusal: u8, values: &[u64; 16], count: usize) -> bool {
     match UniversalNonRealTimeMsg::from_midi(bytes) {
-        IdentityReading::Reply(r) => refusal == 0
-            && is_numbers(message_numbers::reply(r), values, count),
+        IdentityReading::Reply(r) => refusal == 0 && is_reply(r, values, count),
         IdentityReading::Refused(n) => n.number() == refusal,
     }
 }

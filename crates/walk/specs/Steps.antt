@@ -1,11 +1,13 @@
 -- What the steps of the walk find in a stream and put into an index.
+use mathlib.Core.Path.{_≡_}
 use mathlib.Core.Bool.{Bool, not}
 use mathlib.Core.List.{List, [], _∷_}
-use Prim.Native.Nat.{ℕ, suc, _+_, _*_}
+use Prim.Native.Nat.{ℕ, suc, _+_, _*_, _<_, _≤_}
 use lib.Dec.{ltb, eqb}
-use lib.ListN.{length, take, set}
+use lib.ListN.{length, getD, drop, set}
 use Rattle.util.specs.Pick.{pick}
-use Rattle.messages.specs.Walk.{Stretch, reach}
+use Rattle.messages.specs.declared.«file_reference».Kind.{Kind}
+use Rattle.messages.specs.Walk.{Stretch, stretches, is-frame}
 
 -- how many bytes a list begins with that pass a test
 unfoldable pub run : (ℕ → Bool) → List ℕ → ℕ
@@ -20,10 +22,22 @@ is-low b = ltb b 128
 abbrev pub not-f0 : ℕ → Bool
 not-f0 b = not (eqb b 0xF0)
 
--- how far off the first stretch begins that passes a test; the length where there is none
-unfoldable pub next : (List ℕ → Bool) → List ℕ → ℕ
-next test [] = 0
-next test (b ∷ r) = pick (test (take (reach r) (b ∷ r))) 0 (suc (next test r))
+-- the frames from a place on
+abbrev pub from : Kind → List ℕ → ℕ → List Stretch
+from k s a = stretches (is-frame k) a (drop a s)
+
+-- a stretch from the F0 at a place to the F7 at e, with bytes below 128 between
+pub record Closed (s : List ℕ) (start e : ℕ) : Type 0 where
+  pub first : getD s start 0 ≡ 0xF0
+  pub ends : e ≡ (start + 1) + run is-low (drop (start + 1) s)
+  pub fits : e < length s
+  pub last : getD s e 0 ≡ 0xF7
+
+-- a reading from a place: no frame begins before the start that it answers, and there a stretch is closed, or the stream has ended
+pub record Reached (s : List ℕ) (at start e : ℕ) : Type 0 where
+  pub ahead : at ≤ start
+  pub same : (k : Kind) → from k s at ≡ from k s start
+  pub closed : start < length s → Closed s start e
 
 -- an index with the pair of place n, where there is room for it
 unfoldable pub put : List ℕ → ℕ → ℕ → ℕ → List ℕ

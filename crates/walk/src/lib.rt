@@ -2,10 +2,10 @@
 use messages::file_reference::Kind;
 use util::refusal::Refusal;
 ghost use mathlib.Core.Path.{_≡_};
-ghost use Prim.Native.Nat.{_+_, _*_, _-_, _<_, _≤_};
+ghost use Prim.Native.Nat.{_+_, _*_, _-_, _/_, _%_, _<_, _≤_};
 ghost use lib.ListN.{length, take, drop, getD};
 ghost use Rattle.messages.specs.Walk.{frames, is-frame};
-ghost use Rattle.walk.specs.Steps.{run, is-low, not-f0, next, put, put-all};
+ghost use Rattle.walk.specs.Steps.{run, is-low, not-f0, Closed, Reached, put, put-all};
 ghost use Rattle.walk.specs.Answer.{WalkMet};
 
 // What the walk answers: the number of frames, or a refusal and the value besides its number.
@@ -72,48 +72,73 @@ fn next_high(stream: &&[u8], from: usize) -> usize
     high_from(*stream, from)
 }
 
-// Whether the stretch from the F0 at `start` to the next byte that is not below 128, at `e`, is a frame.
-fn frame_at(stream: &&[u8], kind: Kind, start: usize, e: usize) -> bool
-    requires { ⌜ (start < length (now (now stream))) × (length (now (now stream)) ≤ 65535) × (getD (now (now stream)) start 0 ≡ 0xF0) × (e ≡ (start + 1) + run is-low (drop (start + 1) (now (now stream)))) ⌝ }
-    ensures { λ r. ⌜ r ≡ is-frame kind (take (e + 1 - start) (drop start (now (now (stream .entry))))) ⌝ }
+// The byte of a stream behind a second reference at a place.
+fn byte_at(stream: &&[u8], i: usize) -> u8
+    requires { ⌜ i < length (now (now stream)) ⌝ }
+    ensures { λ r. ⌜ r ≡ getD (now (now (stream .entry))) i 0 ⌝ }
 {
     let s = *stream;
-    if s.len() < e + 1 {
-        return false;
+    s[i]
+}
+
+// Outside a stretch: the first one from F0 to F7, of three bytes or more, from `at` on: 65,536 times its start, and its end. None: the end of the stream as its start.
+fn read_outside(stream: &&[u8], at: usize) -> usize
+    requires { ⌜ (at ≤ length (now (now stream))) × (length (now (now stream)) ≤ 65535) ⌝ }
+    ensures { λ r. ⌜ Reached (now (now (stream .entry))) at (r / 65536) (r % 65536) ⌝ }
+{
+    if at < stream.len() {
+        if byte_at(stream, at) == 0xF0 {
+            return read_inside(stream, at);
+        }
     }
+    let i = next_f0(stream, at);
+    if i < stream.len() {
+        read_inside(stream, i)
+    } else {
+        i * 65536
+    }
+}
+
+// Inside, from the F0 at `start`: the same from there on. An F0 begins another stretch; where 7E does not follow, or another byte that is not
+// below 128 ends the stretch, the reading goes on outside.
+fn read_inside(stream: &&[u8], start: usize) -> usize
+    requires { ⌜ (start < length (now (now stream))) × (length (now (now stream)) ≤ 65535) × (getD (now (now stream)) start 0 ≡ 0xF0) ⌝ }
+    ensures { λ r. ⌜ Reached (now (now (stream .entry))) start (r / 65536) (r % 65536) ⌝ }
+{
+    let next = start + 1;
+    if stream.len() <= next {
+        return next * 65536;
+    }
+    let b = byte_at(stream, next);
+    if b == 0xF0 {
+        return read_inside(stream, next);
+    }
+    if b != 0x7E {
+        return read_outside(stream, next + 1);
+    }
+    let e = next_high(stream, next + 1);
+    if e < stream.len() {
+        if byte_at(stream, e) == 0xF0 {
+            return read_inside(stream, e);
+        }
+        if byte_at(stream, e) == 0xF7 {
+            return start * 65536 + e;
+        }
+        read_outside(stream, e + 1)
+    } else {
+        e * 65536
+    }
+}
+
+// Whether the stretch from the F0 at `start` to the F7 at `e` is a frame.
+fn frame_at(s: &[u8], kind: Kind, start: usize, e: usize) -> bool
+    requires { ⌜ Closed (now s) start e ⌝ }
+    ensures { λ r. ⌜ r ≡ is-frame kind (take (e + 1 - start) (drop start (now (s .entry)))) ⌝ }
+{
     if e < start + 5 {
         return false;
     }
-    if s[e] != 0xF7 {
-        return false;
-    }
     reader::is_frame_shaped(&s[start..e + 1], kind)
-}
-
-// Outside a frame: the first place from `at` on where a frame begins, or the end. An F0 is passed to the reading inside.
-fn read_outside(stream: &&[u8], kind: Kind, at: usize) -> usize
-    requires { ⌜ (at ≤ length (now (now stream))) × (length (now (now stream)) ≤ 65535) ⌝ }
-    ensures { λ r. ⌜ r ≡ at + next (is-frame kind) (drop at (now (now (stream .entry)))) ⌝ }
-{
-    let i = next_f0(stream, at);
-    if i < stream.len() {
-        read_inside(stream, kind, i)
-    } else {
-        i
-    }
-}
-
-// Inside, from the F0 at `start`: the same from there on. What ends the stretch, if it is no frame, is passed to the reading outside.
-fn read_inside(stream: &&[u8], kind: Kind, start: usize) -> usize
-    requires { ⌜ (start < length (now (now stream))) × (length (now (now stream)) ≤ 65535) × (getD (now (now stream)) start 0 ≡ 0xF0) ⌝ }
-    ensures { λ r. ⌜ r ≡ start + next (is-frame kind) (drop start (now (now (stream .entry)))) ⌝ }
-{
-    let e = next_high(stream, start + 1);
-    if frame_at(stream, kind, start, e) {
-        start
-    } else {
-        read_outside(stream, kind, e)
-    }
 }
 
 // Puts the pairs of the frames, as far as the index has room, and counts the frames.
@@ -124,12 +149,15 @@ fn list(stream: &[u8], kind: Kind, index: &mut [u32]) -> usize
     ensures listed { λ _. ⌜ now (index .exit) ≡ put-all (now (index .entry)) 0 (frames kind (now (stream .entry))) ⌝ }
 {
     let mut n: usize = 0;
-    let mut at = read_outside(&stream, kind, 0);
-    while at < stream.len() {
-        let e = high_from(stream, at + 1);
-        put_pair(index, n, at as u32, (e + 1 - at) as u32);
-        n += 1;
-        at = read_outside(&stream, kind, e + 1);
+    let mut p = read_outside(&stream, 0);
+    while p / 65536 < stream.len() {
+        let start = p / 65536;
+        let e = p % 65536;
+        if frame_at(stream, kind, start, e) {
+            put_pair(index, n, start as u32, (e + 1 - start) as u32);
+            n += 1;
+        }
+        p = read_outside(&stream, e + 1);
     }
     n
 }

@@ -21,10 +21,9 @@ use Rattle.messages.specs.Structures.{extended-loop-code}
 use Rattle.messages.specs.Layouts.{form}
 use Rattle.reading.specs.Places.{value-at}
 use Rattle.reading.proofs.Laws.Numbers.{unsigned-at, range-at, seven-get}
-use Rattle.reading.proofs.Laws.Lists.{bytes-at}
+use Rattle.reading.proofs.Laws.Lists.{bytes-at, bytes-length}
 use Rattle.reading.proofs.Laws.Answers.{none-left}
 use Rattle.read_sample_dump.specs.Loops.{loop-number-of}
-use Rattle.read_sample_dump.proofs.Laws.Bytes.{bytes-length}
 use Rattle.read_sample_dump.proofs.Laws.Loops.{extended-loop-type-at, extended-one-byte, loop-number-at}
 
 module _ (f : List ℕ) (s : Seven f) where

@@ -1,16 +1,20 @@
 -- The layouts of sample dumps by place: what they read, and where they read nothing.
 -- Assumes nothing.
 use mathlib.Core.Path.{_≡_, refl, sym, ap, _∙_}
+use mathlib.Core.Logic.{⊎-elim}
+use mathlib.Core.Bool.{Bool, true}
 use mathlib.Core.Option.{none, some}
 use mathlib.Core.List.{List, [], _∷_}
-use Prim.Native.Nat.{ℕ, suc, _≤_}
+use Prim.Native.Nat.{ℕ, suc, _≤_, _<_}
+use native.Mathlib.Nat.{eq-or-lt-of-le}
 use native.Mathlib.Omega.{arith}
-use lib.Dec.{lit<, lit≤}
+use lib.Dec.{lit<, lit≤, eqb}
 use lib.ListN.{length, take, drop, getD}
 use Rattle.util.specs.Groups.{Seven}
 use Rattle.util.proofs.Laws.Options.{not-some}
 use Rattle.messages.specs.declared.head.Head.the-variants as head
 use Rattle.messages.specs.declared.«sample_dump».LoopType.{LoopType}
+use Rattle.messages.specs.declared.«sample_dump».LoopType.the-variants.{Forward, BiDirectional, Off}
 use Rattle.messages.specs.declared.«sample_dump».LoopNumber.the-variants.{RequestAll, DeleteAll}
 use Rattle.messages.specs.format.Lists.{all-bytes}
 use Rattle.messages.specs.format.Tests.{other-length}
@@ -18,12 +22,19 @@ use Rattle.messages.specs.Fields.{u7}
 use Rattle.messages.specs.Structures.{loop-code}
 use Rattle.messages.specs.Layouts.{form}
 use Rattle.reading.specs.Places.{value-at}
+use Rattle.reading.specs.Found.{is-read}
 use Rattle.reading.proofs.Laws.Numbers.{unsigned-at, range-at}
-use Rattle.reading.proofs.Laws.Lists.{bytes-at}
-use Rattle.reading.proofs.Laws.Answers.{none-left}
+use Rattle.reading.proofs.Laws.Lists.{bytes-at, bytes-length}
+use Rattle.reading.proofs.Laws.Answers.{none-left, read-if}
 use Rattle.read_sample_dump.specs.Loops.{loop-number-of}
-use Rattle.read_sample_dump.proofs.Laws.Bytes.{bytes-length}
+use Rattle.read_sample_dump.proofs.Laws.Bytes.{first-same}
 use Rattle.read_sample_dump.proofs.Laws.Loops.{loop-type-at, one-byte, loop-number-at}
+
+-- a loop type from 2 on is 7F
+others : {b : ℕ} → 2 ≤ b → (b ≡ 127 → ⊥) → (t : LoopType) → loop-code t ≡ b ∷ [] → ⊥
+others h k Forward e = let x = first-same e in omega arith
+others h k BiDirectional e = let x = first-same e in omega arith
+others h k Off e = k (first-same e)
 
 module _ (f : List ℕ) (s : Seven f) where
   -- ---- headers
@@ -52,6 +63,25 @@ module _ (f : List ℕ) (s : Seven f) where
         loop-type-at t f 15 (omega arith) e,
         none-left f 16 n,
       )
+
+  -- whether there is a header, by its loop type
+  module _ (n : length f ≡ 16) (p : 8 ≤ getD f 2 0) (q : getD f 2 0 ≤ 28) where
+    abbrev header-in : Bool
+    header-in = is-read (form head.SampleDumpHeader .read f)
+
+    header-typed : (t : LoopType) → loop-code t ≡ getD f 15 0 ∷ [] → true ≡ header-in
+    header-typed t e = sym (ap is-read (header-reads t n p q e))
+
+    pub header-low : getD f 15 0 < 2 → true ≡ header-in
+    header-low b =
+        ⊎-elim (λ (e : getD f 15 0 ≡ 1). header-typed BiDirectional (ap (λ (x : ℕ). x ∷ []) (sym e)))
+        (λ (l : getD f 15 0 < 1). header-typed Forward (ap (λ (x : ℕ). x ∷ []) (omega arith)))
+        (eq-or-lt-of-le (omega arith))
+
+    pub header-high : 2 ≤ getD f 15 0 → eqb (getD f 15 0) 127 ≡ header-in
+    header-high b =
+        read-if (form head.SampleDumpHeader .read f) _ (getD f 15 0) 127 (λ e. header-reads Off n p q (ap (λ (x : ℕ). x ∷ []) (sym e)))
+        (λ k. header-not λ n′ p′ q′ t e. others b k t e)
 
   -- ---- packets
 

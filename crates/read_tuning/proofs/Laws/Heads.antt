@@ -22,17 +22,13 @@ use Rattle.messages.specs.Entries.{tuning-entry, tuning-of, change-entry, chang
 use Rattle.messages.specs.Layouts.{form}
 use Rattle.reading.specs.Places.{value-at, tuning-at, change-at, tuning-entries, change-entries}
 use Rattle.reading.proofs.Laws.Numbers.{unsigned-at, seven-get, value-get}
-use Rattle.reading.proofs.Laws.Lists.{bytes-at, items-at}
+use Rattle.reading.proofs.Laws.Lists.{bytes-at, bytes-length, items-at}
 use Rattle.reading.proofs.Laws.Answers.{none-left}
 use Rattle.read_tuning.specs.Scales.{scale-1-at, scale-2-at}
 use Rattle.read_tuning.proofs.Laws.Entries.{tuning-reads, change-reads}
 use Rattle.read_tuning.proofs.Laws.Scales.{scale-1-reads, scale-2-reads}
 
 -- ---- how many bytes a list takes
-
-bytes-size : (l : List ℕ) → length (all-bytes u7 l) ≡ length l
-bytes-size [] = refl
-bytes-size (x ∷ l) = ap suc (bytes-size l)
 
 tunings-size : (l : List MaybeTuning) → length (all-bytes tuning l) ≡ 3 * length l
 tunings-size [] = refl
@@ -64,7 +60,7 @@ module _ (f : List ℕ) (s : Seven f) where
       not-some (form head.KeyBasedTuningDump .read f)
       λ a e. let w = form head.KeyBasedTuningDump .only f a e in
       let n : length f ≡ suc (length (all-bytes u7 (a .name) ++ all-bytes tuning (a .tunings))) = sym (ap length (w .1)) in
-      k (omega (arith, length-append (all-bytes u7 (a .name)) (all-bytes tuning (a .tunings)), bytes-size (a .name), tunings-size (a .tunings), w .0 .0 .1 .0 .0, w .0 .0 .1 .1 .0))
+      k (omega (arith, length-append (all-bytes u7 (a .name)) (all-bytes tuning (a .tunings)), bytes-length (a .name), tunings-size (a .tunings), w .0 .0 .1 .0 .0, w .0 .0 .1 .1 .0))
 
   pub keys-read : length f ≡ 401
       → form head.KeyBasedTuningDump .read f
@@ -82,7 +78,7 @@ module _ (f : List ℕ) (s : Seven f) where
       not-some (form head.BankKeyBasedTuningDump .read f)
       λ a e. let w = form head.BankKeyBasedTuningDump .only f a e in
       let n : length f ≡ suc (suc (length (all-bytes u7 (a .name) ++ all-bytes tuning (a .tunings)))) = sym (ap length (w .1)) in
-      k (omega (arith, length-append (all-bytes u7 (a .name)) (all-bytes tuning (a .tunings)), bytes-size (a .name), tunings-size (a .tunings), w .0 .0 .1 .1 .0 .0, w .0 .0 .1 .1 .1 .0))
+      k (omega (arith, length-append (all-bytes u7 (a .name)) (all-bytes tuning (a .tunings)), bytes-length (a .name), tunings-size (a .tunings), w .0 .0 .1 .1 .0 .0, w .0 .0 .1 .1 .1 .0))
 
   pub bank-keys-read : length f ≡ 402
       → form head.BankKeyBasedTuningDump .read f
@@ -103,7 +99,7 @@ module _ (f : List ℕ) (s : Seven f) where
       not-some (form head.ScaleTuningDump1Byte .read f)
       λ a e. let w = form head.ScaleTuningDump1Byte .only f a e in
       let n : length f ≡ suc (suc (length (all-bytes u7 (a .name) ++ scale-1 .bytes (a .scale)))) = sym (ap length (w .1)) in
-      k (n ∙ omega (arith, length-append (all-bytes u7 (a .name)) (scale-1 .bytes (a .scale)), bytes-size (a .name), w .0 .0 .1 .1 .0 .0))
+      k (n ∙ omega (arith, length-append (all-bytes u7 (a .name)) (scale-1 .bytes (a .scale)), bytes-length (a .name), w .0 .0 .1 .1 .0 .0))
 
   pub scale-dump-1-reads : length f ≡ 30
       → form head.ScaleTuningDump1Byte .read f
@@ -122,7 +118,7 @@ module _ (f : List ℕ) (s : Seven f) where
       not-some (form head.ScaleTuningDump2Byte .read f)
       λ a e. let w = form head.ScaleTuningDump2Byte .only f a e in
       let n : length f ≡ suc (suc (length (all-bytes u7 (a .name) ++ scale-2 .bytes (a .scale)))) = sym (ap length (w .1)) in
-      k (n ∙ omega (arith, length-append (all-bytes u7 (a .name)) (scale-2 .bytes (a .scale)), bytes-size (a .name), w .0 .0 .1 .1 .0 .0))
+      k (n ∙ omega (arith, length-append (all-bytes u7 (a .name)) (scale-2 .bytes (a .scale)), bytes-length (a .name), w .0 .0 .1 .1 .0 .0))
 
   pub scale-dump-2-reads : length f ≡ 42
       → form head.ScaleTuningDump2Byte .read f

@@ -23,7 +23,8 @@ use Rattle.reading.specs.Places.{data-at}
 use Rattle.reading.specs.Found.{data-of, entries-of, text-in}
 use Rattle.reader.specs.declared.lent.Reading.{Reading}
 use Rattle.reader.specs.declared.lent.Reading.the-variants as reading
-use Rattle.reader.specs.Body.{fields-in, inner}
+use Rattle.reader.specs.Opening.{fields-in}
+use Rattle.reader.specs.Body.{inner}
 use Rattle.reader.specs.Reading.{data-after, entries-after, said, ReadMet, has-data}
 use Rattle.reader.specs.Filled.{enough, Filled}
 use Rattle.reader.proofs.Laws.Apart.{data-is-at, no-entries, no-data, text-is-data, text-is-part, entries-free}

@@ -33,10 +33,10 @@ by-test : {C : Type 0} (a x : ℕ) (t : Bool) → eqb a x ≡ t → (a ≡ x →
 by-test a x true e f g = f (eqb-true a x e)
 by-test a x false e f g = g (λ q. let z = sym (eq-eqb a x q) ∙ e in let w : _≡_ {A = ℕ} 0 1 = cc in omega arith)
 
-by-byte : {C : Type 0} (a x : ℕ) → (a ≡ x → C) → ((a ≡ x → ⊥) → C) → C
+pub by-byte : {C : Type 0} (a x : ℕ) → (a ≡ x → C) → ((a ≡ x → ⊥) → C) → C
 by-byte a x f g = by-test a x (eqb a x) refl f g
 
-eqb-sym : (a b : ℕ) → eqb a b ≡ eqb b a
+pub eqb-sym : (a b : ℕ) → eqb a b ≡ eqb b a
 eqb-sym a b = by-byte a b (λ e. rw (eq-eqb a b e, eq-eqb b a (sym e))) (λ n. rw (ne-eqb a b n, ne-eqb b a (λ e. n (sym e))))
 
 -- ---- one head more

@@ -10,7 +10,7 @@ use lib.ListN.{length, take, drop, getD}
 use lib.Seq.{drop-cons}
 use Rattle.util.specs.Groups.{Seven}
 use Rattle.messages.specs.format.Core.{Part, got}
-use Rattle.messages.specs.format.Lists.{all-read}
+use Rattle.messages.specs.format.Lists.{all-read, all-bytes}
 use Rattle.messages.specs.Fields.{u7}
 use Rattle.reading.specs.Places.{value-at, entries-at}
 use Rattle.reading.proofs.Laws.Numbers.{unsigned-at, value-get}
@@ -50,3 +50,7 @@ pub entries-back : {A : Type 0} (pack : A → ℕ) (val : ℕ → A) (entry : �
     → map pack (map val (entries-at entry size i n)) ≡ entries-at entry size i n
 entries-back pack val entry e size zero i = refl
 entries-back pack val entry e size (suc n) i = ap₂ (λ (x : ℕ) (l : List ℕ). x ∷ l) (e i) (entries-back pack val entry e size n (i + size))
+
+pub bytes-length : (l : List ℕ) → length (all-bytes u7 l) ≡ length l
+bytes-length [] = refl
+bytes-length (x ∷ l) = ap suc (bytes-length l)

@@ -1,0 +1,56 @@
+-- `desk_files::frames::end_from` meets its contract. The invariant: the place is not before the first, and within the bytes if that is.
+-- Assumes nothing.
+use lib.ListN.{length}
+use Prim.Native.Nat.{_≤_, _-_}
+use borrow.Author.Needs.{needs}
+use Rattle.desk_files.proofs.frames.end_from.Statement.{statement}
+use Rattle.desk_files.proofs.frames.end_from.Tie as tie
+
+abbrev Inv-loop : tie.InvT-loop
+Inv-loop s from i₀ i = (from ≤ length s → i ≤ length s) × (from ≤ i)
+
+abbrev μ-loop : tie.MeasureT-loop
+μ-loop s from i₀ i = length s - i
+
+loop-holds : tie.Need-loop-holds Inv-loop μ-loop
+loop-holds c = search needs
+
+shared-slice-read-if1 : tie.Need-shared-slice-read-if1 Inv-loop μ-loop
+shared-slice-read-if1 c = search needs
+
+returns : tie.Need-returns Inv-loop μ-loop
+returns c = search needs
+
+shared-slice-read-if2 : tie.Need-shared-slice-read-if2 Inv-loop μ-loop
+shared-slice-read-if2 c = search needs
+
+returns-2 : tie.Need-returns-2 Inv-loop μ-loop
+returns-2 c = search needs
+
+add-i : tie.Need-add-i Inv-loop μ-loop
+add-i c = search needs
+
+loop-less : tie.Need-loop-less Inv-loop μ-loop
+loop-less c = search needs
+
+loop-again : tie.Need-loop-again Inv-loop μ-loop
+loop-again c = search needs
+
+returns-3 : tie.Need-returns-3 Inv-loop μ-loop
+returns-3 c = search needs
+
+pub end-from-spec : {M : Type 1} → statement M
+end-from-spec =
+    tie.close
+    (tie.spec
+    Inv-loop
+    μ-loop
+    loop-holds
+    shared-slice-read-if1
+    returns
+    shared-slice-read-if2
+    returns-2
+    add-i
+    loop-less
+    loop-again
+    returns-3)

@@ -1,0 +1,111 @@
+// One stretch of bytes: where it ends, and its line.
+use desk_say::fields::Style;
+use desk_say::hex;
+use desk_say::number;
+use desk_say::put;
+use desk_words::refusals;
+use messages::file_reference::Kind;
+use reader::lent::Reading;
+use util::groups::at;
+use util::refusal::Refusal;
+ghost use Prim.Native.Nat.{_≤_};
+ghost use lib.ListN.{length};
+
+// The first place from `from` on whose byte is F0 or F7, or the end.
+pub fn end_from(s: &[u8], from: usize) -> usize
+    ensures { λ r. ⌜ (from ≤ length (now (s .entry)) → r ≤ length (now (s .entry))) × (from ≤ r) ⌝ }
+{
+    let mut i = from;
+    while i < s.len() {
+        if s[i] == 0xF0 {
+            return i;
+        }
+        if s[i] == 0xF7 {
+            return i;
+        }
+        i += 1;
+    }
+    i
+}
+
+// The stretch from an F0 at the start up to the next F7; nothing where there is none.
+pub fn front(s: &[u8]) -> &[u8] {
+    if at(s, 0) != 0xF0 {
+        return &s[0..0];
+    }
+    let e = end_from(s, 1);
+    if e < s.len() {
+        if s[e] == 0xF7 {
+            return &s[0..e + 1];
+        }
+    }
+    &s[0..0]
+}
+
+// Whether a head has two bytes.
+fn is_double(first: u8) -> bool {
+    match first {
+        5 => true,
+        6 => true,
+        7 => true,
+        8 => true,
+        9 => true,
+        11 => true,
+        _ => false,
+    }
+}
+
+// Writes the head of a frame in hexadecimal digits.
+pub fn put_head(frame: &[u8]) {
+    hex(at(frame, 3));
+    if is_double(at(frame, 3)) {
+        put(b" ");
+        hex(at(frame, 4));
+    }
+}
+
+// Writes the offset and the length of a stretch.
+pub fn put_place(offset: u64, len: usize) {
+    number(offset);
+    put(b" ");
+    number(len as u64);
+    put(b" ");
+}
+
+// Writes what a frame is, in one line.
+fn describe(frame: &[u8], kind: Kind) {
+    let mut data = [0u8; 128];
+    let mut entries = [0u64; 128];
+    match reader::read(frame, kind, &mut data, &mut entries) {
+        Reading::Frame {
+            device: _,
+            m,
+            from,
+            len,
+            places,
+        } => desk_words::message(Style::Line, m, reader::part(frame, from, len), places),
+        Reading::Refused(r) => refusals::explain(frame, r),
+    }
+}
+
+// The line of a frame.
+pub fn line(frame: &[u8], offset: u64, kind: Kind) {
+    put_place(offset, frame.len());
+    put_head(frame);
+    put(b" ");
+    describe(frame, kind);
+    put(b"\n");
+}
+
+// The line of a stretch that is no frame.
+pub fn refused(stretch: &[u8], offset: u64, r: Refusal) {
+    put_place(offset, stretch.len());
+    match r {
+        Refusal::Field => put_head(stretch),
+        Refusal::Sum => put_head(stretch),
+        _ => put(b"--"),
+    }
+    put(b" ");
+    refusals::explain(stretch, r);
+    put(b"\n");
+}

@@ -1,0 +1,3 @@
+// Files read in pieces that overlap; output files that are whole or not there.
+pub mod output;
+pub mod pieces;

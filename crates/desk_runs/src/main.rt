@@ -1,0 +1,74 @@
+// Runs a batch of commands, a line each on standard input, as the desk runs its arguments; error lines go to standard output.
+// A line may end in `< FILE`, from which the command reads its lines. What stands in double quotes is one word.
+mod split;
+
+use desk_commands::words;
+use desk_say::put;
+use libc::STDOUT_FILENO;
+ghost use Prim.Native.Nat.{_≤_};
+ghost use lib.ListN.{length};
+
+// Runs the first n words; lines are read from a file.
+fn run_with(w: &[u8], n: usize, path: &[u8]) {
+    let input = os::open_read(path);
+    let end = words::start_of(w, n);
+    desk_commands::run(reader::part(w, 0, end), input, STDOUT_FILENO);
+    if 0 <= input {
+        libc::close(input);
+    }
+}
+
+// Runs words, of which the last two may name a file of lines.
+fn run_words(w: &[u8]) {
+    let n = words::count(w);
+    if 2 <= n {
+        if check::same(words::word(w, n - 2), b"<") {
+            return run_with(w, n - 2, words::word(w, n - 1));
+        }
+    }
+    desk_commands::run(w, -1, STDOUT_FILENO);
+}
+
+// Writes a line, and runs it.
+fn run_line(line: &[u8]) {
+    let mut w = io::buffer();
+    put(b"$ desk ");
+    put(line);
+    put(b"\n");
+    let n = split::split(line, &mut w);
+    run_words(reader::part(&w, 0, n));
+}
+
+// The end of the line that begins at a place.
+fn line_end(s: &[u8], from: usize) -> usize
+    requires { ⌜ from ≤ length (now s) ⌝ }
+    ensures { λ r. ⌜ (from ≤ r) × (r ≤ length (now (s .entry))) ⌝ }
+{
+    let mut i = from;
+    while i < s.len() {
+        if s[i] == 10 {
+            return i;
+        }
+        i += 1;
+    }
+    i
+}
+
+// Runs all lines, which each have a line end.
+fn run_lines(s: &[u8]) {
+    let mut at = 0;
+    while at < s.len() {
+        let end = line_end(s, at);
+        run_line(&s[at..end]);
+        if s.len() <= end {
+            return;
+        }
+        at = end + 1;
+    }
+}
+
+fn main() {
+    let mut room = io::large_buffer();
+    let n = io::read_full(libc::STDIN_FILENO, &mut room);
+    run_lines(&room[..n]);
+}

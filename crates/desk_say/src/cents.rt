@@ -1,0 +1,71 @@
+// Signed values in cents.
+use super::four;
+use super::number;
+use super::put;
+ghost use mathlib.Core.Path.{_≡_};
+ghost use Prim.Native.Nat.{_+_, _-_, _*_, _/_, _≤_};
+ghost use lib.Dec.{ltb};
+
+// A signed amount: below zero or not, and how much.
+pub struct Signed {
+    pub is_below: bool,
+    pub amount: u64,
+}
+
+// Writes the sign of an amount.
+fn put_sign(is_below: bool) {
+    if is_below {
+        put(b"-");
+    } else {
+        put(b"+");
+    }
+}
+
+// Writes a signed whole number.
+pub fn whole(v: Signed) {
+    put_sign(v.is_below);
+    number(v.amount);
+}
+
+// Writes a signed number of ten thousandths.
+pub fn decimals(v: Signed) {
+    put_sign(v.is_below);
+    number(v.amount / 10000);
+    put(b".");
+    four(v.amount);
+}
+
+// How far one number is from another.
+pub fn difference(from: u64, to: u64) -> Signed
+    ensures { λ r. ⌜ (r .«is_below» ≡ ltb to from) × (r .amount ≡ (from - to) + (to - from)) ⌝ }
+{
+    if to < from {
+        return Signed {
+            is_below: true,
+            amount: from - to,
+        };
+    }
+    Signed {
+        is_below: false,
+        amount: to - from,
+    }
+}
+
+// The nearest ten thousandths of a cent to an amount in parts of which so many are 100 cents.
+pub fn ten_thousandths(amount: u64, parts: u64) -> u64
+    requires { ⌜ (amount ≤ 8388608) × (1 ≤ parts) × (parts ≤ 65536) ⌝ }
+    ensures { λ r. ⌜ r ≡ (amount * 1000000 + parts / 2) / parts ⌝ }
+{
+    (amount * 1000000 + parts / 2) / parts
+}
+
+// A signed amount in parts, in ten thousandths of a cent.
+pub fn in_cents(v: Signed, parts: u64) -> Signed
+    requires { ⌜ (v .amount ≤ 8388608) × (1 ≤ parts) × (parts ≤ 65536) ⌝ }
+    ensures { λ r. ⌜ (r .«is_below» ≡ v .«is_below») × (r .amount ≡ (v .amount * 1000000 + parts / 2) / parts) ⌝ }
+{
+    Signed {
+        is_below: v.is_below,
+        amount: ten_thousandths(v.amount, parts),
+    }
+}

@@ -1,0 +1,210 @@
+// A key dump or a scale dump from the lines of an open file, as a new file.
+use super::keys;
+use super::keys::Lines;
+use super::scale;
+use super::scale::Values;
+use desk_numbers::Number;
+use desk_pieces::output;
+use desk_pieces::pieces;
+use desk_say::complain;
+use desk_say::complain_number;
+use messages::system_exclusive::DeviceID;
+use messages::system_exclusive::UniversalNonRealTimeMsg;
+use messages::tuning::KeyBasedTuningDump;
+use messages::tuning::ScaleTuningDump1Byte;
+use messages::tuning::ScaleTuningDump2Byte;
+use messages::tuning::TuningBank;
+use util::bytes::is_seven;
+use writer::Written;
+ghost use Prim.Native.Nat.{_≤_};
+ghost use lib.ListN.{length};
+
+// What error lines call the lines.
+fn complain_line(errors: i32, n: u64, why: &[u8]) {
+    complain_number(errors, b"standard input", b"line ", n, why);
+}
+
+// What error lines call a value.
+fn complain_value(errors: i32, n: u64, why: &[u8]) {
+    complain_number(errors, b"standard input", b"value ", n, why);
+}
+
+// Says what is wrong with a line of a tuning; whether none is.
+fn are_good(l: Lines, errors: i32) -> bool {
+    match l {
+        Lines::Good => return true,
+        Lines::NotTwo(n) => complain_line(errors, n, b" is not two words, KEY CENTS or KEY -"),
+        Lines::NoKey(n) => complain_line(errors, n, b" begins with no key from 0 to 127"),
+        Lines::NoCents(n) => complain_line(
+            errors,
+            n,
+            b" has no number of cents, or more than four decimals",
+        ),
+        Lines::Outside(n) => complain_line(
+            errors,
+            n,
+            b" goes below key 0 or above the highest pitch",
+        ),
+        Lines::Twice(n) => complain_line(errors, n, b" names a key that an earlier line named"),
+    }
+    false
+}
+
+// Says what is wrong with a value of a scale; whether none is.
+fn are_values(v: Values, errors: i32) -> bool {
+    match v {
+        Values::Good => return true,
+        Values::NoNumber(n) => complain_value(errors, n, b" is no number of cents"),
+        Values::Outside(n) => complain_value(errors, n, b" is not from -100 to 99.99 cents"),
+        Values::TooFew(n) => complain_number(
+            errors,
+            b"standard input",
+            b"a scale has twelve values, and here are ",
+            n,
+            b"",
+        ),
+        Values::TooMany => complain(
+            errors,
+            b"standard input",
+            b"a scale has twelve values, and here are more",
+        ),
+    }
+    false
+}
+
+// A number from 0 to 127, or 255 and a line that says that a word is none.
+fn seven(word: &[u8], errors: i32) -> u8 {
+    match desk_numbers::parse(word) {
+        Number::Is(n) => {
+            if n < 128 {
+                return n as u8;
+            }
+        }
+        Number::Nothing => {}
+    }
+    complain(errors, word, b"is no number from 0 to 127");
+    255
+}
+
+// Whether a name has at most 16 characters, none above 7F.
+fn is_name(name: &[u8], errors: i32) -> bool {
+    if 16 < name.len() {
+        complain(errors, name, b"has more than 16 characters");
+        return false;
+    }
+    if is_seven(name) {
+        return true;
+    }
+    complain(errors, name, b"has a character that MIDI names cannot have");
+    false
+}
+
+// Reads all lines; how many bytes there are, or the size of the buffer and a line that says why not.
+fn read_input(input: i32, room: &mut [u8], errors: i32) -> usize
+    ensures { λ r. ⌜ r ≤ length (now (room .entry)) ⌝ }
+{
+    let got = pieces::read_all(input, room);
+    if got.is_failed {
+        complain(errors, b"standard input", b"cannot be read");
+        return room.len();
+    }
+    if got.count == room.len() {
+        complain(errors, b"standard input", b"is too long for a tuning");
+    }
+    got.count
+}
+
+// Writes the frame of a message as a new file.
+fn save_message(
+    path: &[u8],
+    m: UniversalNonRealTimeMsg,
+    name: &[u8],
+    entries: &[u64],
+    errors: i32,
+) {
+    let mut out = io::buffer();
+    match writer::write(DeviceID::AllCall, m, name, entries, &mut out, 0) {
+        Written::Frame(n) => output::save(path, reader::part(&out, 0, n), errors),
+        Written::Refused(_) => complain(errors, path, b"the message cannot be written"),
+    }
+}
+
+// Writes the key dump of lines as a new file.
+fn save_keys(path: &[u8], program: u8, name: &[u8], s: &[u8], errors: i32) {
+    let mut entries = [0u64; 128];
+    if are_good(keys::read(s, &mut entries), errors) {
+        let dump = KeyBasedTuningDump {
+            tuning_bank_num: TuningBank::NoBank,
+            tuning_program_num: program,
+        };
+        save_message(
+            path,
+            UniversalNonRealTimeMsg::KeyBasedTuningDump(dump),
+            name,
+            &entries,
+            errors,
+        );
+    }
+}
+
+// Makes a key dump of the lines of an open file.
+pub fn tune(path: &[u8], program: &[u8], name: &[u8], input: i32, errors: i32) {
+    let p = seven(program, errors);
+    if 127 < p {
+        return;
+    }
+    if !is_name(name, errors) {
+        return;
+    }
+    let mut room = io::large_buffer();
+    let n = read_input(input, &mut room, errors);
+    if n < 65536 {
+        save_keys(path, p, name, reader::part(&room, 0, n), errors);
+    }
+}
+
+// The scale dump of twelve values: of one byte a note where all are whole cents from -64 to 63, else of two.
+fn scale_of(values: &[u64; 12], bank: u8, program: u8) -> UniversalNonRealTimeMsg {
+    if scale::are_whole(values) {
+        return UniversalNonRealTimeMsg::ScaleTuningDump1Byte(ScaleTuningDump1Byte {
+            tuning_bank_num: bank,
+            tuning_program_num: program,
+            tuning: scale::in_cents(values),
+        });
+    }
+    UniversalNonRealTimeMsg::ScaleTuningDump2Byte(ScaleTuningDump2Byte {
+        tuning_bank_num: bank,
+        tuning_program_num: program,
+        tuning: scale::in_parts(values),
+    })
+}
+
+// Writes the scale dump of words as a new file.
+fn save_scale(path: &[u8], bank: u8, program: u8, name: &[u8], s: &[u8], errors: i32) {
+    let mut values = [2000000u64; 12];
+    let v = scale::read(s, &mut values);
+    if are_values(v, errors) {
+        let none = [0u64; 1];
+        save_message(path, scale_of(&values, bank, program), name, &none, errors);
+    }
+}
+
+// Makes a scale dump of the twelve values of an open file.
+pub fn make_scale(path: &[u8], bank: &[u8], program: &[u8], name: &[u8], input: i32, errors: i32) {
+    let b = seven(bank, errors);
+    if 127 < b {
+        return;
+    }
+    let p = seven(program, errors);
+    if 127 < p {
+        return;
+    }
+    if !is_name(name, errors) {
+        return;
+    }
+    let mut room = io::large_buffer();
+    let n = read_input(input, &mut room, errors);
+    if n < 65536 {
+        save_scale(path, b, p, name, reader::part(&room, 0, n), errors);
+    }
+}

@@ -1,0 +1,181 @@
+// Twelve values in cents, C first.
+use super::lines;
+use desk_numbers::cents;
+use desk_numbers::cents::Decimals;
+use desk_numbers::parts;
+use messages::tuning::Scale1Byte;
+use messages::tuning::Scale2Byte;
+use util::signed;
+ghost use Prim.Native.Nat.{_<_};
+
+// Zero among the values: a value stands as many ten thousandths of a cent above or below it.
+pub const ZERO: u64 = 2000000;
+
+// How reading the values went: the number of the value that is wrong, and why.
+pub enum Values {
+    Good,
+    NoNumber(u64),
+    Outside(u64),
+    TooFew(u64),
+    TooMany,
+}
+
+// The value of a word, from -100 to 99.99 cents; 0 where it is none.
+fn value_of(d: Decimals) -> u64 {
+    match d {
+        Decimals::Above(a) => { if a <= 999900 { ZERO + a } else { 0 } }
+        Decimals::Below(a) => { if a <= 1000000 { ZERO - a } else { 0 } }
+        Decimals::Nothing => 0,
+    }
+}
+
+// One more, up to the largest number.
+fn more(n: usize) -> usize {
+    if n < usize::MAX { n + 1 } else { n }
+}
+
+// Puts the value of a word at place n.
+fn put_word(word: &[u8], values: &mut [u64], n: usize) -> Values {
+    let d = cents::parse_cents(word);
+    if let Decimals::Nothing = d {
+        return Values::NoNumber(more(n) as u64);
+    }
+    let v = value_of(d);
+    if v == 0 {
+        return Values::Outside(more(n) as u64);
+    }
+    if n < values.len() {
+        values[n] = v;
+        return Values::Good;
+    }
+    Values::TooMany
+}
+
+// Whether all values so far are good.
+fn is_good(v: Values) -> bool {
+    match v {
+        Values::Good => true,
+        _ => false,
+    }
+}
+
+// Whether the values are not too few.
+fn counted(v: Values, n: usize) -> Values {
+    if is_good(v) {
+        if n < 12 {
+            return Values::TooFew(n as u64);
+        }
+    }
+    v
+}
+
+// Puts the values of all words, up to the first that is wrong.
+pub fn read(s: &[u8], values: &mut [u64]) -> Values {
+    let mut v = Values::Good;
+    let mut n = 0;
+    let mut at = lines::skip(s, 0);
+    while at < s.len() {
+        if !is_good(v) {
+            return v;
+        }
+        let end = lines::word_end(s, at);
+        if end <= at {
+            return v;
+        }
+        v = put_word(&s[at..end], values, n);
+        n = more(n);
+        at = lines::skip(s, end);
+    }
+    counted(v, n)
+}
+
+// Whether a value is a whole number of cents from -64 to 63.
+fn is_whole(v: u64) -> bool {
+    if v < 1360000 {
+        return false;
+    }
+    if 2630000 < v {
+        return false;
+    }
+    v % 10000 == 0
+}
+
+// Whether all values are whole numbers of cents from -64 to 63.
+pub fn are_whole(values: &[u64]) -> bool {
+    let mut i = 0;
+    while i < values.len() {
+        if !is_whole(values[i]) {
+            return false;
+        }
+        i += 1;
+    }
+    true
+}
+
+// The value of place n in whole cents, held to -64..63.
+fn cents_at(values: &[u64; 12], n: usize) -> i8
+    requires { ⌜ n < 12 ⌝ }
+{
+    let v = values[n];
+    if v < 1360000 {
+        return signed::u7_to_i(0);
+    }
+    signed::u7_to_i(util::groups::hold((v - 1360000) / 10000, 127) as u8)
+}
+
+// The value of place n in 8,192nds of a semitone, held to -8,192..8,191.
+fn parts_at(values: &[u64; 12], n: usize) -> i16
+    requires { ⌜ n < 12 ⌝ }
+{
+    let v = values[n];
+    if v < ZERO {
+        return below(parts::nearest_8192(ZERO - v));
+    }
+    above(parts::nearest_8192(util::groups::hold(v - ZERO, 999999)))
+}
+
+// So many parts above zero.
+fn above(n: u64) -> i16 {
+    signed::u14_to_i(8192 + util::groups::hold(n, 8191) as u16)
+}
+
+// So many parts below zero.
+fn below(n: u64) -> i16 {
+    signed::u14_to_i(8192 - util::groups::hold(n, 8192) as u16)
+}
+
+// The scale of whole cents.
+pub fn in_cents(v: &[u64; 12]) -> Scale1Byte {
+    Scale1Byte {
+        c: cents_at(v, 0),
+        c_sharp: cents_at(v, 1),
+        d: cents_at(v, 2),
+        d_sharp: cents_at(v, 3),
+        e: cents_at(v, 4),
+        f: cents_at(v, 5),
+        f_sharp: cents_at(v, 6),
+        g: cents_at(v, 7),
+        g_sharp: cents_at(v, 8),
+        a: cents_at(v, 9),
+        a_sharp: cents_at(v, 10),
+        b: cents_at(v, 11),
+    }
+}
+
+// The scale in parts of a cent.
+pub fn in_parts(v: &[u64; 12]) -> Scale2Byte {
+    Scale2Byte {
+        c: parts_at(v, 0),
+        c_sharp: parts_at(v, 1),
+        d: parts_at(v, 2),
+        d_sharp: parts_at(v, 3),
+        e: parts_at(v, 4),
+        f: parts_at(v, 5),
+        f_sharp: parts_at(v, 6),
+        g: parts_at(v, 7),
+        g_sharp: parts_at(v, 8),
+        a: parts_at(v, 9),
+        a_sharp: parts_at(v, 10),
+        b: parts_at(v, 11),
+    }
+}

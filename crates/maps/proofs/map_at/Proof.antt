@@ -1,0 +1,38 @@
+-- `maps::map_at` meets its contract: the record that the entry says, or the default past the end.
+-- Assumes nothing.
+use mathlib.Core.Path.{_∙_, sym}
+use native.Mathlib.Omega.{arith}
+use borrow.Author.Needs.{needs}
+use denote.Ref.{now}
+use Rattle.maps.proofs.Laws.{mapped-at, mapped-past}
+use Rattle.maps.proofs.map_at.Statement.{statement}
+use Rattle.maps.proofs.map_at.Tie as tie
+
+mul-from-entry : tie.Need-mul-from-entry
+mul-from-entry c = search needs
+
+shared-slice-read-from-entry : tie.Need-shared-slice-read-from-entry
+shared-slice-read-from-entry c = search needs
+
+from-entry-requires : tie.Need-from-entry-requires
+from-entry-requires c κs = search needs
+
+default-requires : tie.Need-default-requires
+default-requires c κs = search needs
+
+returns : tie.Need-returns
+returns c = let s = c .before .before .before .before in c .from-entry .ensures ∙ sym (mapped-at (now (s .args .entries)) (s .args .i) (omega arith))
+
+returns-2 : tie.Need-returns-2
+returns-2 c = let s = c .before .before .before in c .default .ensures ∙ sym (mapped-past (now (s .args .entries)) (s .args .i) (omega arith))
+
+pub map-at-spec : {M : Type 1} → statement M
+map-at-spec =
+    tie.close
+    (tie.spec
+    mul-from-entry
+    shared-slice-read-from-entry
+    from-entry-requires
+    default-requires
+    returns
+    returns-2)

@@ -1,0 +1,56 @@
+-- `maps_replay::cases::records_of` is safe and ends.
+-- Assumes nothing.
+use Prim.Native.Nat.{_≤_, _-_}
+use borrow.Author.Needs.{needs}
+use Rattle.maps_replay.proofs.cases.records_of.Statement.{statement}
+use Rattle.maps_replay.proofs.cases.records_of.Tie as tie
+use Rattle.maps_replay.proofs.cases.records_of.Lts as lts
+
+abbrev Inv-loop : tie.InvT-loop
+Inv-loop entries records₀ i₀ records i = i ≤ 130
+
+abbrev μ-loop : tie.MeasureT-loop
+μ-loop entries records₀ i₀ records i = 130 - i
+
+default-requires : tie.Need-default-requires Inv-loop μ-loop
+default-requires c κs = search needs
+
+loop-holds : tie.Need-loop-holds Inv-loop μ-loop
+loop-holds c = search needs
+
+map-at-requires : tie.Need-map-at-requires Inv-loop μ-loop
+map-at-requires c κs = search needs
+
+mul-records : tie.Need-mul-records Inv-loop μ-loop
+mul-records c = search needs
+
+array-set-from-records : tie.Need-array-set-from-records Inv-loop μ-loop
+array-set-from-records c = search needs
+
+add-i : tie.Need-add-i Inv-loop μ-loop
+add-i c = search needs
+
+loop-less : tie.Need-loop-less Inv-loop μ-loop
+loop-less c = search needs
+
+loop-again : tie.Need-loop-again Inv-loop μ-loop
+loop-again c = search needs
+
+returns : tie.Need-returns Inv-loop μ-loop
+returns c = search needs
+
+pub records-of-spec : {M : Type 1} → statement M
+records-of-spec =
+    tie.close
+    (tie.spec
+    Inv-loop
+    μ-loop
+    default-requires
+    loop-holds
+    map-at-requires
+    mul-records
+    array-set-from-records
+    add-i
+    loop-less
+    loop-again
+    returns)

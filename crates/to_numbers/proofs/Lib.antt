@@ -1,0 +1,5 @@
+pub mod Laws
+pub mod ValuesBack
+pub mod RowsBack
+pub mod ToldOnly
+pub mod Promises

@@ -1,0 +1,28 @@
+-- `to_numbers::to_numbers` meets its contract: the numbers are those that are put for the number of the device.
+-- Assumes nothing.
+use mathlib.Core.Path.{sym}
+use Prim.Native.Nat.{ℕ}
+use Rattle.to_numbers.specs.Numbers.{numbers, coded, numbers-of}
+use Rattle.to_numbers.proofs.Laws.{put-of}
+use borrow.Author.Needs.{needs}
+use Rattle.to_numbers.proofs.to_numbers.Statement.{statement}
+use Rattle.to_numbers.proofs.to_numbers.Tie as tie
+
+device-number-requires : tie.Need-device-number-requires
+device-number-requires c κs = search needs
+
+put-message-requires : tie.Need-put-message-requires
+put-message-requires c κs = search needs
+
+same-length : tie.Need-same-length
+same-length c = search needs
+
+returns : tie.Need-returns
+unfolding numbers-of
+returns c =
+    let p = put-of (λ (n : ℕ). numbers n (coded (c .before .before .before .before .before .before .args .m))) (sym (c .before .before .before .before .device-number .ensures)) (c .before .before .put-message .ensures) in
+    (p .count, p .there)
+
+pub to-numbers-spec : {M : Type 1} → statement M
+to-numbers-spec =
+    tie.close (tie.spec device-number-requires put-message-requires same-length returns)

@@ -1,0 +1,4 @@
+pub mod Put
+pub mod Numbers
+pub mod Told
+pub mod Promises

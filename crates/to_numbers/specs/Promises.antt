@@ -1,0 +1,19 @@
+-- What the numbers promise, as propositions: the theorems of proofs/ have these types.
+use mathlib.Core.Path.{_≡_}
+use mathlib.Core.Logic.{_↔_}
+use mathlib.Core.Option.{some}
+use Rattle.numbers.specs.declared.fit.NumberType.{NumberType}
+use Rattle.numbers.specs.Values.{Value, value}
+use Rattle.numbers.specs.Types.{DeviceID, UniversalNonRealTimeMsg}
+use Rattle.numbers.specs.Table.{message-of}
+use Rattle.numbers.specs.declared.Made.the-variants.{Message}
+use Rattle.to_numbers.specs.Numbers.{number, numbers-of}
+use Rattle.to_numbers.specs.Told.{Told, MessageTold}
+
+-- the numbers of a message, where its fields are told, are read as that message
+abbrev pub NumbersBack : Type 0
+NumbersBack = (d : DeviceID) (m : UniversalNonRealTimeMsg) → MessageTold d m → message-of (numbers-of d m) ≡ Message d m
+
+-- a field is told just where its number says it
+abbrev pub ToldExactly : Type 0
+ToldExactly = (t : NumberType) (v : Value t) → Told t v ↔ (value t (number t v) ≡ some v)
