@@ -1,0 +1,125 @@
+-- What an answer of the writer is in numbers; numbers put behind others. Assumes nothing.
+use mathlib.Core.Path.{_≡_, refl, sym, ap, subst, _∙_}
+use mathlib.Core.Bool.{Bool}
+use mathlib.Core.List.{List, [], _∷_, _++_}
+use Prim.Native.Nat.{ℕ, suc, _+_, _-_, _≤_}
+use native.Mathlib.Omega.{arith}
+use lib.Dec.{leb}
+use lib.ListN.{length, take, drop, set, replicate}
+use lib.Seq.{drop-at, drop-drop, length-take-le}
+use borrow.Rule.Slice.PartMut.{putMid}
+use borrow.Author.Tests.{le-leb, le-ltb}
+use Rattle.util.specs.Pick.{pick}
+use Rattle.util.specs.Splice.{front, splice}
+use Rattle.util.proofs.Laws.Splice.{sets-front, tail-room, part-put, part-length}
+use Rattle.messages.specs.declared.«system_exclusive».DeviceID.{DeviceID}
+use Rattle.messages.specs.declared.«system_exclusive».UniversalNonRealTimeMsg.{UniversalNonRealTimeMsg}
+use Rattle.messages.specs.Messages.{writeOf, Answer}
+use Rattle.messages.specs.Messages as message
+use Rattle.reader.specs.declared.lent.Reading.{Reading}
+use Rattle.reader.specs.Reading.{ReadMet}
+use Rattle.messages.specs.MessageOf.{messageOf}
+use Rattle.numbers.specs.declared.Made.{Made}
+use Rattle.numbers.specs.declared.Made.the-variants.{Message, Malformed}
+use Rattle.numbers.specs.Table.{message-of}
+use Rattle.writer.specs.declared.Written.{Written}
+use Rattle.writer.specs.Write.{written-at, written-number, written-value, output-after}
+use Rattle.messages.specs.declared.«system_exclusive».ManufacturerID.{ManufacturerID}
+use Rattle.messages.specs.declared.«system_exclusive».ManufacturerID.the-variants.{OneByte, Extended}
+use Rattle.messages.specs.declared.«system_exclusive».IdentityReply.{IdentityReply}
+use Rattle.messages.specs.declared.«system_exclusive».IdentityReading.the-variants.{Reply, Refused}
+use Rattle.messages.specs.Identity.{identityOf}
+use Rattle.util.specs.declared.refusal.Refusal.{Refusal}
+use Rattle.util.specs.Refusals.{number}
+use Rattle.to_numbers.specs.Put.{Put}
+use Rattle.boundary.specs.Identity.{identity-number, identity-answer}
+use Rattle.to_numbers.specs.Numbers.{field-numbers, maker, after-maker}
+use Rattle.boundary.specs.declared.kinds.Named.{Named}
+use Rattle.boundary.specs.Walk.{walk-number, walk-value, walk-index}
+use Rattle.boundary.specs.Read.{ReadAs, Kept}
+use Rattle.boundary.specs.Write.{made-number, made-value, made-output, write-number, write-value, write-output}
+
+module _ (v text entries out : List ℕ) (place : ℕ) where
+  -- a message was written, or refused
+  pub wrote : (d : DeviceID) (m : UniversalNonRealTimeMsg) → message-of v ≡ Message d m → (a b : Written) (out′ : List ℕ) → a ≡ b
+      → a ≡ written-at (writeOf (messageOf d m text entries)) (length out) place → out′ ≡ output-after (writeOf (messageOf d m text entries)) out place
+      → (written-number b ≡ write-number v text entries out place) × ((written-value b ≡ write-value v text entries out place) × (out′ ≡ write-output v text entries out place))
+  wrote d m e a b out′ q p o = (
+    ap written-number (sym q ∙ p) ∙ ap (λ (x : Made). made-number x text entries out place) (sym e),
+    (
+      ap written-value (sym q ∙ p) ∙ ap (λ (x : Made). made-value x text entries out place) (sym e),
+      o ∙ ap (λ (x : Made). made-output x text entries out place) (sym e),
+    ),
+  )
+
+  -- the numbers are no message
+  pub unwritten : message-of v ≡ Malformed → (64 ≡ write-number v text entries out place) × ((0 ≡ write-value v text entries out place) × (out ≡ write-output v text entries out place))
+  unwritten e = (
+    ap (λ (x : Made). made-number x text entries out place) (sym e),
+    (ap (λ (x : Made). made-value x text entries out place) (sym e), ap (λ (x : Made). made-output x text entries out place) (sym e)),
+  )
+
+-- numbers put behind the first four places, which are then stored
+module _ (xs ys ns : List ℕ) (room : 20 ≤ length xs) (few : length ns ≤ 16)
+    (put : ys ≡ pick (leb (length ns) (length (take (length xs - 4) (drop 4 xs)))) (front ns (take (length xs - 4) (drop 4 xs))) (take (length xs - 4) (drop 4 xs))) where
+  put-front : ys ≡ front ns (take (length xs - 4) (drop 4 xs))
+  put-front = put ∙ ap (λ (t : Bool). pick t (front ns (take (length xs - 4) (drop 4 xs))) (take (length xs - 4) (drop 4 xs))) (le-leb _ _ (tail-room xs 4 (length ns) (omega arith)))
+
+  pub behind-length : length (putMid 4 (length xs - 4) xs ys) ≡ length xs
+  behind-length = part-length xs ys ns 4 (omega arith) put-front
+
+  front-behind : (a b c d : ℕ) → front (a ∷ b ∷ c ∷ d ∷ []) (splice xs 4 ns) ≡ front (a ∷ b ∷ c ∷ d ∷ ns) xs
+  front-behind a b c d =
+      let h : 4 ≤ length xs = omega arith in
+      let n : 4 + length ns ≡ suc (suc (suc (suc (length ns)))) = omega arith in
+      ap (λ (l : List ℕ). a ∷ b ∷ c ∷ d ∷ l) (drop-at (take 4 xs) (front ns (drop 4 xs)) 4 (length-take-le 4 xs h) ∙ ap (λ (l : List ℕ). ns ++ l) (drop-drop (length ns) 4 xs ∙ ap (λ (k : ℕ). drop k xs) n))
+
+  pub behind-four : (a b c d : ℕ) → set (set (set (set (putMid 4 (length xs - 4) xs ys) 0 a) 1 b) 2 c) 3 d ≡ front (a ∷ b ∷ c ∷ d ∷ ns) xs
+  behind-four a b c d =
+      sets-front (a ∷ b ∷ c ∷ d ∷ []) (putMid 4 (length xs - 4) xs ys) (omega (arith, behind-length))
+      ∙ ap (front (a ∷ b ∷ c ∷ d ∷ [])) (part-put xs ys ns 4 put-front)
+      ∙ front-behind a b c d
+
+-- the walk for what was named
+pub walked-as : {x y : Named} → x ≡ y → (s ix ix′ : List ℕ) (n v : ℕ) → n ≡ walk-number y s ix → v ≡ walk-value y s ix → ix′ ≡ walk-index y s ix
+    → (n ≡ walk-number x s ix) × ((v ≡ walk-value x s ix) × (ix′ ≡ walk-index x s ix))
+walked-as e s ix ix′ n v p q r =
+    subst (λ (z : Named). (n ≡ walk-number z s ix) × ((v ≡ walk-value z s ix) × (ix′ ≡ walk-index z s ix))) (sym e) (p, (q, r))
+
+-- what was read, as the answer says it
+pub met-as : {x y : Reading} {a : Answer message.Message} {frame dat dat′ es es′ : List ℕ} → x ≡ y → ReadMet x a frame dat dat′ es es′ → ReadMet y a frame dat dat′ es es′
+met-as {x} {y} {a} {frame} {dat} {dat′} {es} {es′} e r = subst (λ (z : Reading). ReadMet z a frame dat dat′ es es′) e r
+
+-- a reading for what was named, with a short answer or a long one
+pub read-as : {x y : Named} {a b : Bool} → x ≡ y → a ≡ b → (n : ℕ) (frame dat dat′ es es′ answer answer′ : List ℕ)
+    → ReadAs y b n frame dat dat′ es es′ answer answer′ → ReadAs x a n frame dat dat′ es es′ answer answer′
+read-as {x} {y} {a} {b} e f n frame dat dat′ es es′ answer answer′ r =
+    subst (λ (z : Named). ReadAs z a n frame dat dat′ es es′ answer answer′) (sym e)
+    (subst (λ (t : Bool). ReadAs y t n frame dat dat′ es es′ answer answer′) (sym f) r)
+
+-- nothing is altered under a refusal of the boundary's own
+pub kept : (n : ℕ) (dat es answer : List ℕ) → Kept n n dat dat es es answer answer
+kept n dat es answer = record { number-is = refl; data-is = refl; entries-are = refl; answer-is = refl }
+
+-- the nine numbers of a reply behind head code and device
+pub nine : (k : ManufacturerID) (r : IdentityReply) (row : List ℕ)
+    → row ≡ pick (leb (length (0x0602 ∷ 0 ∷ field-numbers (maker k ++ after-maker r))) 11) (front (0x0602 ∷ 0 ∷ field-numbers (maker k ++ after-maker r)) (replicate 11 0)) (replicate 11 0)
+    → take 9 (drop 2 row) ≡ field-numbers (maker k ++ after-maker r)
+nine (OneByte m) r row e = ap (λ (l : List ℕ). take 9 (drop 2 l)) e
+nine (Extended m n) r row e = ap (λ (l : List ℕ). take 9 (drop 2 l)) e
+
+nine-long : (k : ManufacturerID) (r : IdentityReply) → length (field-numbers (maker k ++ after-maker r)) ≡ 9
+nine-long (OneByte m) r = refl
+nine-long (Extended m n) r = refl
+
+-- a reply was put into an answer of nine places or more
+pub replied : (bytes answer answer′ : List ℕ) (r : IdentityReply) (n : ℕ) → 9 ≤ length answer → Reply r ≡ identityOf bytes
+    → Put (field-numbers (maker (r .id) ++ after-maker r)) answer answer′ n → (0 ≡ identity-number bytes answer) × (answer′ ≡ identity-answer bytes answer)
+replied bytes answer answer′ r n h e p =
+    let q : length (field-numbers (maker (r .id) ++ after-maker r)) ≤ length answer = omega (arith, nine-long (r .id) r) in
+    (rw (le-ltb (length answer) 9 h, ← e), p .there ∙ rw (le-leb _ _ q, le-ltb (length answer) 9 h, ← e))
+
+-- identity reading refused
+pub unreplied : (bytes answer : List ℕ) (r : Refusal) (n : ℕ) → 9 ≤ length answer → Refused r ≡ identityOf bytes → n ≡ number r
+    → (n ≡ identity-number bytes answer) × (answer ≡ identity-answer bytes answer)
+unreplied bytes answer r n h e p = (p ∙ rw (le-ltb (length answer) 9 h, ← e), rw (le-ltb (length answer) 9 h, ← e))

@@ -1,0 +1,45 @@
+-- `boundary::pasoreum_split_rate` meets its contract: the split's answer in numbers.
+-- Assumes nothing.
+use mathlib.Core.Path.{sym, ap, _∙_}
+use Rattle.rates.specs.declared.SplitAnswer.{SplitAnswer}
+use Rattle.rates.specs.Rate.{numbers-of}
+use borrow.Author.Needs.{needs}
+use Rattle.boundary.proofs.pasoreum_split_rate.Statement.{statement}
+use Rattle.boundary.proofs.pasoreum_split_rate.Tie as tie
+
+split-rate-requires : tie.Need-split-rate-requires
+split-rate-requires c κs = search needs
+
+enum-known-w : tie.Need-enum-known-w
+enum-known-w c = search needs
+
+enum-known-r : tie.Need-enum-known-r
+enum-known-r c = search needs
+
+number-requires : tie.Need-number-requires
+number-requires c κs = search needs
+
+cast-result : tie.Need-cast-result
+cast-result c = search needs
+
+returns : tie.Need-returns
+returns c = let n = c .before in
+    let q = sym (n .w .given .1) ∙ n .before .before .split-rate .ensures in
+    (ap (λ (a : SplitAnswer). numbers-of a .number) q, (ap (λ (a : SplitAnswer). numbers-of a .whole) q, ap (λ (a : SplitAnswer). numbers-of a .fraction) q))
+
+returns-2 : tie.Need-returns-2
+returns-2 c = let n = c .before .before in
+    let q = sym (n .r .given .1) ∙ n .before .before .split-rate .ensures in
+    (c .number .ensures ∙ ap (λ (a : SplitAnswer). numbers-of a .number) q, (ap (λ (a : SplitAnswer). numbers-of a .whole) q, ap (λ (a : SplitAnswer). numbers-of a .fraction) q))
+
+pub pasoreum-split-rate-spec : {M : Type 1} → statement M
+pasoreum-split-rate-spec =
+    tie.close
+    (tie.spec
+    split-rate-requires
+    enum-known-w
+    enum-known-r
+    number-requires
+    cast-result
+    returns
+    returns-2)

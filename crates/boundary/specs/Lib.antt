@@ -1,0 +1,5 @@
+pub mod Kinds
+pub mod Write
+pub mod Read
+pub mod Walk
+pub mod Identity

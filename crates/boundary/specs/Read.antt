@@ -1,0 +1,46 @@
+-- What reading answers in numbers: as the reader does, or 65 for a kind that is neither, or 66 for an answer of fewer than 20 places.
+use mathlib.Core.Path.{_≡_}
+use mathlib.Core.Bool.{Bool, true, false}
+use mathlib.Core.List.{List, [], _∷_}
+use Prim.Native.Nat.{ℕ}
+use lib.ListN.{length}
+use Rattle.util.specs.Splice.{front}
+use Rattle.util.specs.Refusals.{number}
+use Rattle.messages.specs.declared.«file_reference».Kind.{Kind}
+use Rattle.messages.specs.Messages.{readOf}
+use Rattle.reader.specs.declared.lent.Reading.{Reading}
+use Rattle.reader.specs.declared.lent.Reading.the-variants.{Frame, Refused}
+use Rattle.reader.specs.Reading.{ReadMet}
+use Rattle.to_numbers.specs.Numbers.{numbers-of}
+use Rattle.boundary.specs.declared.kinds.Named.{Named}
+use Rattle.boundary.specs.declared.kinds.Named.the-variants as named
+
+-- the number of the refusal, 0 for none
+abbrev pub reading-number : Reading → ℕ
+reading-number (Frame d m from len places) = 0
+reading-number (Refused r) = number r
+
+-- how many numbers the message has, the start and length of its part of the frame, its lent places, then the message's numbers
+abbrev pub reading-numbers : Reading → List ℕ
+reading-numbers (Frame d m from len places) = length (numbers-of d m) ∷ from ∷ len ∷ places ∷ numbers-of d m
+reading-numbers (Refused r) = []
+
+-- a reading for a kind, as the reader's contract has it, and its numbers at the start of the answer
+pub record ReadFor (k : Kind) (n : ℕ) (frame dat dat′ es es′ answer answer′ : List ℕ) : Type 0 where
+  pub reading : Reading
+  pub met : ReadMet reading (readOf k frame) frame dat dat′ es es′
+  pub number-is : n ≡ reading-number reading
+  pub answer-is : answer′ ≡ front (reading-numbers reading) answer
+
+-- a refusal of the boundary's own: all that was lent keeps its contents
+pub record Kept (refusal n : ℕ) (dat dat′ es es′ answer answer′ : List ℕ) : Type 0 where
+  pub number-is : n ≡ refusal
+  pub data-is : dat′ ≡ dat
+  pub entries-are : es′ ≡ es
+  pub answer-is : answer′ ≡ answer
+
+-- by the kind that was named, and whether the answer is short
+abbrev pub ReadAs : Named → Bool → ℕ → List ℕ → List ℕ → List ℕ → List ℕ → List ℕ → List ℕ → List ℕ → Type 0
+ReadAs named.Neither short n frame dat dat′ es es′ answer answer′ = Kept 65 n dat dat′ es es′ answer answer′
+ReadAs (named.Kind k) true n frame dat dat′ es es′ answer answer′ = Kept 66 n dat dat′ es es′ answer answer′
+ReadAs (named.Kind k) false n frame dat dat′ es es′ answer answer′ = ReadFor k n frame dat dat′ es es′ answer answer′
