@@ -1,25 +1,36 @@
-# Sourced by the benchmarks: `here` is the repository, `work` a folder that is removed at the end.
+# Sourced by the benchmarks and by tests/boundary.sh: `here` is the repository, `work` a folder that is removed at the end.
 here=$(cd "$(dirname "${BASH_SOURCE[0]}")/.." && pwd)
 work=$(mktemp -d)
 trap 'rm -rf "$work"' EXIT
+release="-C opt-level=3 -C debug-assertions=off -C overflow-checks=off"
 
-# archive SOURCE DEP..: the functions of bench/SOURCE.rt.txt as the archive $work/libtimed.a. What is proved already is not proved again.
-archive() {
-    local source=$1 part proof
-    shift
-    mkdir -p "$work/port/target" "$work/port/crates/timed/src"
-    cp -r "$here/crates/." "$work/port/crates"
-    for part in rlib stamp; do
-        if [ -d "$here/target/$part" ]; then cp -r "$here/target/$part" "$work/port/target/$part"; fi
-    done
-    cp "$here/bench/$source.rt.txt" "$work/port/crates/timed/src/lib.rt"
-    for proof in "$here/bench/$source"/*.antt.txt; do
-        [ -e "$proof" ] || continue
-        part=$(basename "$proof" .antt.txt)
-        mkdir -p "$work/port/crates/timed/proofs/$part"
-        cp "$proof" "$work/port/crates/timed/proofs/$part/Proof.antt"
-    done
-    { cat "$here/crates.txt"; echo "timed: $*"; } > "$work/port/crates.txt"
-    (cd "$work/port" && rt staticlib timed > "$work/log" 2>&1) || { tail -20 "$work/log"; exit 1; }
-    mv "$work/port/target/staticlib/libtimed.a" "$work/libtimed.a"
+# build_boundary: `lib` is the folder of libboundary.a, the one that PASOREUM_LIB_DIR names, or else target/staticlib. There the archive is made where it
+# is not there or older than a source.
+build_boundary() {
+    lib=${PASOREUM_LIB_DIR:-$here/target/staticlib}
+    [ -z "${PASOREUM_LIB_DIR:-}" ] || return 0
+    if [ ! -e "$lib/libboundary.a" ] || [ -n "$(find "$here/crates" "$here/crates.txt" -type f -newer "$lib/libboundary.a" -print -quit)" ]; then
+        (cd "$here" && rt staticlib boundary > "$work/log" 2>&1) || { tail -20 "$work/log"; exit 1; }
+    fi
+}
+
+# build_crate ORACLE SOURCES: the crate by the oracle's build.sh, in $work/crate. ORACLE is the folder of build.sh, SOURCES that of the crate's files.
+build_crate() {
+    mkdir -p "$work/oracle"
+    cp -r "$1/build.sh" "$1/stand_ins" "$work/oracle"
+    sh "$work/oracle/build.sh" "$2" "$work/crate" > "$work/log" 2>&1 || { tail -20 "$work/log"; exit 1; }
+}
+
+# add_timed: that crate with one public function more, which writes into a Vec that is kept.
+add_timed() {
+    cat >> "$work/crate/src/system_exclusive/mod.rs" <<'R'
+pub mod timed {
+    use super::*;
+    pub fn write(m: &SystemExclusiveMsg, v: &mut Vec<u8>) {
+        m.extend_midi(v, true);
+    }
+}
+R
+    (cd "$work/crate" && rustc $release --edition 2024 --crate-type rlib --crate-name midi_msg -A unexpected_cfgs \
+        --cfg 'feature="sysex"' --extern bstr=libbstr.rlib --extern micromath=libmicromath.rlib src/lib.rs)
 }

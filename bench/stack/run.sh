@@ -2,6 +2,6 @@
 # bench/stack/run.sh: the walk over ten streams of 65,535 bytes, with a stack of 64 KB.
 set -eu
 . "$(dirname "$0")/../archive.sh"
-archive walking util messages reader walk
-cc -O2 "$here/bench/stack/stack.c" "$work/libtimed.a" -o "$work/stack"
+build_boundary
+cc -std=gnu11 -O2 -Wall -Wextra -I "$here/include" "$here/bench/stack/stack.c" "$lib/libboundary.a" -o "$work/stack"
 (ulimit -s 64 && "$work/stack")

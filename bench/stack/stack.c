@@ -1,13 +1,18 @@
 /* The walk over streams of 65,535 bytes that pass most often between its two readings. Run with a small stack. */
 #include "../streams.h"
+#include "pasoreum.h"
 #include <stdio.h>
 #include <sys/resource.h>
 #include <time.h>
 
-size_t pasoreum_stack_walk(const uint8_t *stream, size_t n, uint32_t *index, size_t m);
-
 static uint32_t listed[2 * N], counted[2];
 static int failed;
+
+/* The walk for a bank, its answer as one number: the number of frames, or 100,000 times the refusal's number and the value besides it. */
+static size_t walk_bank(const uint8_t *s, size_t n, uint32_t *index, size_t m) {
+    uint64_t value;
+    return pasoreum_walk(s, n, PASOREUM_BANK, index, m, &value) * 100000ul + value;
+}
 
 static double now(void) {
     struct timespec t;
@@ -18,8 +23,8 @@ static double now(void) {
 /* want: the number of frames, -1 where it is not known; len: the length of each */
 static void walk(const char *name, long want, size_t len) {
     memset(listed, 0xEE, sizeof listed);
-    size_t got = pasoreum_stack_walk(stream, N, listed, 2 * N);
-    size_t less = pasoreum_stack_walk(stream, N, counted, 0);
+    size_t got = walk_bank(stream, N, listed, 2 * N);
+    size_t less = walk_bank(stream, N, counted, 0);
     int right = want < 0 || got == (size_t)want;
     for (size_t i = 0; len && i < got; i++)
         right &= listed[2 * i] == i * len && listed[2 * i + 1] == len;
@@ -28,11 +33,11 @@ static void walk(const char *name, long want, size_t len) {
     double one = 1e18, two = 1e18;
     for (int r = 0; r < 15; r++) {
         double t = now();
-        for (int i = 0; i < 10; i++) pasoreum_stack_walk(stream, N, listed, 2 * N);
+        for (int i = 0; i < 10; i++) walk_bank(stream, N, listed, 2 * N);
         double d = (now() - t) / 10 / N;
         if (d < one) one = d;
         t = now();
-        for (int i = 0; i < 10; i++) pasoreum_stack_walk(stream, N, listed, 2 * (N / 6) - 2);
+        for (int i = 0; i < 10; i++) walk_bank(stream, N, listed, 2 * (N / 6) - 2);
         d = (now() - t) / 10 / N;
         if (d < two) two = d;
     }
@@ -50,7 +55,7 @@ int main(void) {
         const char *name = make(i, &want, &len);
         walk(name, want, len);
     }
-    if (pasoreum_stack_walk(stream, N + 1, listed, 2 * N) != 1100000) failed++, puts("STREAM not refused");
+    if (walk_bank(stream, N + 1, listed, 2 * N) != 1100000) failed++, puts("STREAM not refused");
     printf("%d failed\n", failed);
     return failed != 0;
 }
