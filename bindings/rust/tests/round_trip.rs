@@ -1,7 +1,9 @@
-//! A settled message of each head, written and read again.
+//! A settled message of each head, written, held against the bytes of its layout, and read again.
 use pasoreum::UniversalNonRealTimeMsg::*;
 use pasoreum::*;
 
+/// The first bytes of each message's frame, up to 40, a line each.
+const FRAMES: &str = include_str!("frames.txt");
 const NAME: [u8; 16] = *b"quarter comma   ";
 const SCALE_1: [i8; 12] = [-64, -1, 0, 1, 63, 5, -5, 7, -7, 9, -9, 11];
 const SCALE_2: [i16; 12] = [-8_192, -1, 0, 1, 8_191, 500, -500, 7, -7, 9, -9, 11];
@@ -44,7 +46,7 @@ fn bank_maps() -> SelectMap {
 }
 
 fn wav_map() -> WAVMap {
-    WAVMap { fine: -3, ..WAVMap::default() }
+    WAVMap { dst_bank: 300, dst_prog: 1, fine: -3, ..WAVMap::default() }
 }
 
 fn wav_offset() -> SelectMap {
@@ -207,8 +209,9 @@ fn every_head() {
     let mut heads: Vec<u16> = all.iter().map(|(code, _)| *code).collect();
     heads.dedup();
     assert_eq!(heads.len(), 36);
+    assert_eq!(FRAMES.lines().count(), all.len());
     let devices = [DeviceID::Device(0), DeviceID::Device(126), DeviceID::AllCall];
-    for (i, (code, msg)) in all.into_iter().enumerate() {
+    for (i, ((code, msg), line)) in all.into_iter().zip(FRAMES.lines()).enumerate() {
         let kind = match &msg {
             FileReference(FileReferenceMsg::SelectContents {
                 map: SelectMap::WAV(_) | SelectMap::WAVBankOffset { .. },
@@ -222,6 +225,8 @@ fn every_head() {
         let [first, second] = code.to_be_bytes();
         assert_eq!(frame[3], first);
         assert!(second == 0 || frame[4] == second);
+        let digits: Vec<String> = frame.iter().take(40).map(|byte| format!("{byte:02X}")).collect();
+        assert_eq!(digits.join(" "), line);
         assert_eq!(SystemExclusiveMsg::read(&frame, kind), Ok(m));
         let whole = Stretch { offset: 0, length: frame.len() };
         assert_eq!(walk(&frame, kind), Ok(vec![whole]));
