@@ -137,16 +137,17 @@ fn row(name: &str, m: Numbers) {
     let times = 4_000_000 / (n + 20);
     let (mut a, mut b, mut c) = (f64::MAX, f64::MAX, f64::MAX);
     for _ in 0..ROUNDS {
+        // each of the three gets its input through one black_box, which costs them the same
         a = a.min(time(times, || {
             v.clear();
-            timed::write(black_box(&before), black_box(&mut v));
+            timed::write(black_box(&before), &mut v);
         }));
         b = b.min(time(times, || {
             v.clear();
-            timed::write(&make(black_box(&m)), black_box(&mut v));
+            timed::write(&make(black_box(&m)), &mut v);
         }));
         c = c.min(time(times, || {
-            black_box(here(black_box(&m), black_box(&mut out)));
+            here(black_box(&m), &mut out);
         }));
     }
     println!("{name:<26} {n:>6} {a:>9.1} {b:>9.1} {c:>9.1} {:>7.2} {:>7.2} {GOAL:>6.2}  {}, {}", c / a, c / b, verdict(c / a), verdict(c / b));
