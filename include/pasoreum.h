@@ -2,11 +2,10 @@
  * Pasoreum: MIDI Universal Non-Real-Time System Exclusive frames written, read, and found in a stream.
  *
  * Link libboundary.a, which `rt staticlib boundary` makes. C99 or C++98 and later, on x86-64 Linux. Every function ends on every input, keeps no
- * state, allocates nothing, and may be
- * called from any thread.
+ * state, allocates nothing, and may be called from any thread.
  *
- * Every function that can refuse answers 0, or the number of a refusal. A refused call alters nothing of what it was lent, and the value that it
- * answers besides is 0, but for PASOREUM_INDEX.
+ * A function that can refuse answers 0, or the number of a refusal. A refused call alters nothing of what it was lent; what it answers through
+ * value, whole or fraction is then 0, but for PASOREUM_INDEX.
  *
  * What is lent goes in as a pointer and a length, in elements. A pointer is never null, also where the length is 0. What is written to overlaps
  * nothing else of the same call.
@@ -57,48 +56,53 @@ extern "C" {
 
 /*
  * Head code, device, then the fields. The head code is the first head byte times 256 plus the second, or the first times 256 for a head of one
- * byte. The device is 0 to 255, or PASOREUM_ALL_CALL. Signed fields are in two's complement of 64 bits (cast an int64_t). Text and entries stand
- * beside the numbers.
+ * byte. The device is 0 to 255, or PASOREUM_ALL_CALL. A number above the type of its field is refused (NO_MESSAGE); one above the field's written
+ * range is held at its edge by the writer. Signed fields are in two's complement of 64 bits (cast an int64_t). Text and entries stand beside the
+ * numbers; what a message does not use of them is ignored.
  *
- * head code   fields                                                                            text; entries
- * 0x0100      sample, format, period, length, loop start, loop end, loop type (0, 1, 127)
- * 0x0200      running count                                                                     sample bytes
- * 0x0300      sample
- * 0x0501      sample, loop number, loop type, start, end
- * 0x0502      sample, loop number
- * 0x0503      sample                                                                            name
- * 0x0504      sample
- * 0x0505      sample, format, rate, its 2^28ths, length, start, end, extended loop type,
- *             channels
- * 0x0506      sample, loop number, extended loop type, start, end
- * 0x0507      sample, loop number
- * 0x0601      none
- * 0x0602      maker form (0 one byte, 1 two bytes), m1, m2 (0 in form 0), family, member, four
- *             bytes of revision
- * 0x0701      sender device, type, length                                                       name
- * 0x0702      running count                                                                     file data
- * 0x0703      requester device, type                                                            name
- * 0x0800      program
- * 0x0801      program                                                                           16 name bytes; tunings
- * 0x0803      bank, program
- * 0x0804      bank, program                                                                     16 name bytes; tunings
- * 0x0805, 06  bank, program, twelve signed values                                               16 name bytes
- * 0x0807      bank or PASOREUM_NO_BANK, program                                                 ; note changes
- * 0x0808, 09  channel set (bit 0 is channel 1), twelve signed values
- * 0x0901..03  none
- * 0x0B01      context, file type                                                                URL
- * 0x0B02      context, map                                                                      ; bank maps
- * 0x0B03      context, file type, map                                                           URL; bank maps
- * 0x0B04      context
- * 0x7B00..7D  none
- * 0x7E00, 7F  packet number
+ * head code       fields, u8 where no type is given                                              text; entries
+ * 0x0100          sample u16, format, period, length, loop start, loop end (u32 each),
+ *                 loop type
+ * 0x0200          running count                                                                  sample bytes
+ * 0x0300          sample u16
+ * 0x0501          sample u16, loop number, loop type, start, end (u32 each)
+ * 0x0502          sample u16, loop number
+ * 0x0503          sample u16                                                                     name
+ * 0x0504          sample u16
+ * 0x0505          sample u16, format, rate u32, its 2^28ths u32, length, start, end (u64 each),
+ *                 extended loop type, channels
+ * 0x0506          sample u16, loop number, extended loop type, start, end (u64 each)
+ * 0x0507          sample u16, loop number
+ * 0x0601          none
+ * 0x0602          maker form (0 one byte, 1 two bytes), m1, m2 (0 in form 0), family u16,
+ *                 member u16, four bytes of revision
+ * 0x0701          sender device, type u32, length u32                                            name
+ * 0x0702          running count                                                                  file data
+ * 0x0703          requester device, type u32                                                     name
+ * 0x0800          program
+ * 0x0801          program                                                                        16 name bytes; tunings
+ * 0x0803          bank, program
+ * 0x0804          bank, program                                                                  16 name bytes; tunings
+ * 0x0805          bank, program, twelve i8                                                       16 name bytes
+ * 0x0806          bank, program, twelve i16                                                      16 name bytes
+ * 0x0807          bank or PASOREUM_NO_BANK, program                                              ; note changes
+ * 0x0808          channel set u16 (bit 0 is channel 1), twelve i8
+ * 0x0809          channel set u16, twelve i16
+ * 0x0901 to 0903  none
+ * 0x0B01          context u16, file type                                                         URL
+ * 0x0B02          context u16, map                                                               ; bank maps
+ * 0x0B03          context u16, file type, map                                                    URL; bank maps
+ * 0x0B04          context u16
+ * 0x7B00, 7C00, 7D00   none
+ * 0x7E00, 7F00    packet number
  *
- * A loop number is 0 to 65,535, or PASOREUM_ALL_LOOPS. The type of a file dump is four bytes, the first highest. The file type of a reference is
- * 0 DLS, 1 SF2, 2 WAV. Extended loop types are 0 to 3, 0x40 to 0x43, 0x7E, 0x7F. A map is ten numbers: form (0 list of bank maps, 1 bank offset,
- * 2 WAV, 3 WAV with offset), offset, drum, target bank, program, base, low key, high key, fine (signed), volume; those that a form does not use
- * are 0, and only form 0 has entries.
+ * A loop number is a u16, or PASOREUM_ALL_LOOPS. A loop type is 0, 1 or 127; an extended one 0 to 3, 0x40 to 0x43, 0x7E or 0x7F. The type of a
+ * file dump is four bytes, the first highest. The file type of a reference is 0 DLS, 1 SF2, 2 WAV. A map is ten numbers: form (0 list of bank
+ * maps, 1 bank offset, 2 WAV, 3 WAV with offset), offset u16, drum (0 or 1), target bank u16, program, base, low key, high key, fine i16, volume;
+ * those that a form does not use are 0, and only form 0 has entries.
  *
- * Entries. A tuning is semitone * 65,536 + fraction, or PASOREUM_NO_TUNING. A note change is key * 2^25 + tuning. A bank map is
+ * Entries; every uint64_t is one. A tuning is semitone * 65,536 + fraction, or PASOREUM_NO_TUNING. A note change is key * 2^25 + tuning. A bank
+ * map is
  * ((((((target bank * 256 + target program) * 65,536 + source bank) * 256 + source program) * 2 + source drum) * 2 + target drum) * 256 + volume).
  */
 #define PASOREUM_ALL_CALL 256u
@@ -118,24 +122,31 @@ uint32_t pasoreum_write(const uint64_t *numbers, size_t numbers_len, const uint8
 
 /* ---- Reading ------------------------------------------------------------------------------------------------------------------------------ */
 
-/* How many numbers a reading takes, and how many of them stand before the message's own. */
+/* How many numbers an answer has room for, and how many of them stand before the message's own. */
 #define PASOREUM_READING 20
 #define PASOREUM_READING_NUMBERS 4
 
+/* Places of data and of entries that are enough for every frame. */
+#define PASOREUM_DATA 111
+#define PASOREUM_ENTRIES 128
+
 /*
  * Reads a frame for the kind of sound file that is open. File data goes to the start of data, tunings, note changes and bank maps to the start of
- * entries, one place each; what is past them keeps its value. The answer's first numbers are
+ * entries, one place each. The answer is
  *   answer[0]        how many numbers the message has, 16 at most
- *   answer[1], [2]   where its name, URL or sample bytes begin in the frame, and how many they are
- *   answer[3]        how many places of data or entries it took
+ *   answer[1], [2]   where its name, URL or sample bytes begin in the frame, and how many they are; 0 bytes where it has none
+ *   answer[3]        how many places of data or of entries it took
  *   answer[4] ..     the message as numbers
- * Refusals, in this order: NO_KIND, NO_ROOM (answer_len under PASOREUM_READING), SHAPE, HEAD, FIELD, SUM, HOLD. 111 bytes of data and 128 entries
- * are enough for every frame.
+ * What stands past these in data, entries and answer keeps its value; under a refusal all of it does.
+ * Refusals, in this order: NO_KIND, NO_ROOM (answer_len under PASOREUM_READING), SHAPE, HEAD, FIELD, SUM, HOLD.
  */
 uint32_t pasoreum_read(const uint8_t *frame, size_t frame_len, uint32_t kind, uint8_t *data, size_t data_len, uint64_t *entries,
                        size_t entries_len, uint64_t *answer, size_t answer_len);
 
 /* ---- The walk ------------------------------------------------------------------------------------------------------------------------------ */
+
+/* The longest stream, in bytes. */
+#define PASOREUM_LONGEST_STREAM 65535u
 
 /*
  * Lists the frames of a stream for a kind of sound file: pairs of offset and length, by rising offset, from the index's start. index_len counts
