@@ -1,6 +1,6 @@
 -- Demand 3, as propositions over the contracts of `walk` and `read`: the theorems of proofs/ have these types.
 use mathlib.Core.Path.{_≡_}
-use mathlib.Core.Logic.{_↔_}
+use mathlib.Core.Logic.{_↔_, _⊎_}
 use mathlib.Core.List.{List}
 use Prim.Native.Nat.{ℕ, _+_, _*_, _/_, _≤_, _<_}
 use lib.ListN.{length, getD, take, drop}
@@ -8,7 +8,7 @@ use Rattle.util.specs.Splice.{front}
 use Rattle.messages.specs.declared.«file_reference».Kind.{Kind}
 use Rattle.messages.specs.Messages.{Message, given, SettledFor}
 use Rattle.messages.specs.Promises.{IsFrame, IsFrameFor}
-use Rattle.messages.specs.Walk.{Stretch, Listed, Rising, since}
+use Rattle.messages.specs.Walk.{Stretch, Listed, Rising, since, frames}
 use Rattle.reader.specs.declared.lent.Reading.{Reading}
 use Rattle.reader.specs.Reading.{said}
 use Rattle.reader.specs.Promises.{Read, Enough}
@@ -88,6 +88,19 @@ SameReadings =
     → Read k p (stretch s (a + o) l) dat dat′ es es′ → Read k q (stretch t (b + o) l) dau dau′ et et′
     → length dat ≡ length dau → length es ≡ length et
     → (said p (stretch s (a + o) l) dat′ es′ ≡ said q (stretch t (b + o) l) dau′ et′) × SamePut dat dat′ dau dau′ × SamePut es es′ et et′
+
+-- ---- a stream in pieces
+
+-- no frame has more than 1,292 bytes
+abbrev pub FrameShort : Type 0
+FrameShort = (k : Kind) (bs : List ℕ) → IsFrameFor k bs → length bs ≤ 1292
+
+-- n bytes of a stream from p on hold the frames that begin there: those that begin 1,292 bytes or more before their end, or all where the stream
+-- ends with them
+abbrev pub PieceLists : Type 0
+PieceLists =
+    (k : Kind) (s : List ℕ) (p n o l : ℕ) → (o + 1292 ≤ n) ⊎ (length s ≤ p + n)
+    → Listed (p + o, l) (frames k s) ↔ Listed (o, l) (frames k (stretch s p n))
 
 -- ---- rows 11 and 12, and demand 1 of the walk
 

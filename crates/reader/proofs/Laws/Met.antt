@@ -42,7 +42,7 @@ drop-of-take (suc i) zero l = let e : 0 - suc i ≡ 0 = omega arith in rw e
 drop-of-take (suc i) (suc k) [] = let e : suc k - suc i ≡ k - i = omega arith in rw e (sym (take-none (k - i)))
 drop-of-take (suc i) (suc k) (x ∷ l) = let e : suc k - suc i ≡ k - i = omega arith in rw e (drop-of-take i k l)
 
-part-of : (i n k : ℕ) (l : List ℕ) → i + n ≤ k → take n (drop i (take k l)) ≡ take n (drop i l)
+pub part-of : (i n k : ℕ) (l : List ℕ) → i + n ≤ k → take n (drop i (take k l)) ≡ take n (drop i l)
 part-of i n k l h = ap (take n) (drop-of-take i k l) ∙ take-take n (k - i) (drop i l) (omega arith)
 
 -- the fields, as a part of the frame
