@@ -2,6 +2,10 @@
 use mathlib.Core.Path.{_≡_}
 use mathlib.Core.Logic.{_↔_}
 use mathlib.Core.Option.{some}
+use mathlib.Core.List.{List}
+use Prim.Native.Nat.{ℕ}
+use Rattle.messages.specs.Messages.{Settled}
+use Rattle.messages.specs.MessageOf.{messageOf}
 use Rattle.numbers.specs.declared.fit.NumberType.{NumberType}
 use Rattle.numbers.specs.Values.{Value, value}
 use Rattle.numbers.specs.Types.{DeviceID, UniversalNonRealTimeMsg}
@@ -17,3 +21,7 @@ NumbersBack = (d : DeviceID) (m : UniversalNonRealTimeMsg) → MessageTold d m �
 -- a field is told just where its number says it
 abbrev pub ToldExactly : Type 0
 ToldExactly = (t : NumberType) (v : Value t) → Told t v ↔ (value t (number t v) ≡ some v)
+
+-- the fields of a settled message are told
+abbrev pub SettledTold : Type 0
+SettledTold = (d : DeviceID) (m : UniversalNonRealTimeMsg) (text entries : List ℕ) → Settled (messageOf d m text entries) → MessageTold d m
