@@ -3,3 +3,4 @@ pub mod Write
 pub mod Read
 pub mod Walk
 pub mod Identity
+pub mod Promises

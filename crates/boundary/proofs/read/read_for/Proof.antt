@@ -1,11 +1,11 @@
--- `boundary::reading::read_for` meets its contract: the answer of the reader, and its numbers.
+-- `boundary::read::read_for` meets its contract: the answer of the reader, and its numbers.
 -- Assumes nothing.
 use mathlib.Core.Path.{refl}
 use Rattle.reader.specs.declared.lent.Reading.the-variants as reading
 use Rattle.boundary.proofs.Laws.{met-as}
 use borrow.Author.Needs.{needs}
-use Rattle.boundary.proofs.reading.read_for.Statement.{statement}
-use Rattle.boundary.proofs.reading.read_for.Tie as tie
+use Rattle.boundary.proofs.read.read_for.Statement.{statement}
+use Rattle.boundary.proofs.read.read_for.Tie as tie
 
 read-requires : tie.Need-read-requires
 read-requires c κs = search needs
