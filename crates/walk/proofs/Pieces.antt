@@ -32,7 +32,7 @@ piece-lists k s p n o l c = (
       let f = listed-exactly k s (p + o) l .0 m in
       let a : length (stretch s (p + o) l) ≤ 1292 = frame-short k (stretch s (p + o) l) (f .1) in
       let b : length (stretch s (p + o) l) ≡ l = length-take-le l (drop (p + o) s) (omega (arith, length-drop (p + o) s)) in
-      let h : o + l ≤ n = ⊎-elim (λ (e : o + 1292 ≤ n). omega arith) (λ (e : length s ≤ p + n). omega arith) c in
+      let h : o + l ≤ n = ⊎-elim (λ e. omega arith) (λ e. omega arith) c in
       listed-exactly k (stretch s p n) o l .1 (
         omega (arith, piece-length s p n),
         subst (IsFrameFor k) (sym (same-bytes s p n o l h)) (f .1),
