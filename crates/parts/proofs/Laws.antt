@@ -5,3 +5,4 @@ pub mod Numbers
 pub mod Keys
 pub mod Fronts
 pub mod Sizes
+pub mod Places

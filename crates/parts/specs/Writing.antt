@@ -1,6 +1,7 @@
--- Steps of writing a part: bytes held and filled, entries one after another, packed data byte by byte.
+-- Steps of writing a part: bytes held and filled, entries and signed values one after another, packed data byte by byte.
 use mathlib.Core.List.{List, [], _∷_, _++_}
 use Prim.Native.Nat.{ℕ, zero, suc, _%_}
+use lib.IntN.{ℤ}
 use lib.ListN.{getD}
 use Rattle.util.specs.Groups.{held}
 use Rattle.util.specs.Packing.{tops}
@@ -20,6 +21,10 @@ fill-to f (suc n) (x ∷ xs) = low x ∷ fill-to f n xs
 abbrev pub items : {A : Type 0} → Part A → (ℕ → A) → List ℕ → List ℕ
 items p val [] = []
 items p val (e ∷ es) = written p (val e) ++ items p val es
+
+-- four signed values, one after another
+abbrev pub four : Part ℤ → ℤ → ℤ → ℤ → ℤ → List ℕ
+four p a b c d = written p a ++ (written p b ++ (written p c ++ written p d))
 
 -- how many bytes of a group are still to come after one more, where it was k
 abbrev pub next-left : ℕ → ℕ

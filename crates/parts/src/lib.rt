@@ -3,6 +3,7 @@ pub mod entries;
 pub mod maps;
 pub mod packing;
 pub mod part;
+pub mod places;
 pub mod scales;
 pub mod size;
 pub mod text;

@@ -1,10 +1,10 @@
 // The maps of file references.
-use crate::scales;
+use crate::places::put_i14_at;
+use crate::places::put_u7_at;
+use crate::places::put_u14_at;
 use crate::text;
 use messages::file_reference::SelectMap;
 use messages::file_reference::WAVMap;
-use util::fields;
-use util::groups;
 ghost use mathlib.Core.Path.{_≡_};
 ghost use mathlib.Core.List.{_++_};
 ghost use Prim.Native.Nat.{_+_, _*_, _≤_, min};
@@ -22,30 +22,13 @@ pub fn put_map_entry(out: &mut [u8], e: u64)
     requires { ⌜ 8 ≤ length (now out) ⌝ }
     ensures { λ _. ⌜ now (out .exit) ≡ front (written sound-file-map (map-of e)) (now (out .entry)) ⌝ }
 {
-    let bank = groups::hold(e / 4398046511104, 65535);
     let flags = e / 512 % 2 + 2 * (e / 256 % 2);
-    fields::put_fields(
-        out,
-        [2, 1, 2, 1, 1, 1, 0, 0, 0, 0, 0, 0, 0, 0, 0, 0],
-        [
-            bank,
-            e / 17179869184 % 256,
-            e / 262144 % 65536,
-            e / 1024 % 256,
-            flags,
-            e % 256,
-            0,
-            0,
-            0,
-            0,
-            0,
-            0,
-            0,
-            0,
-            0,
-            0,
-        ],
-    );
+    put_u14_at(out, 0, e / 4398046511104);
+    put_u7_at(out, 2, e / 17179869184 % 256);
+    put_u14_at(out, 3, e / 262144 % 65536);
+    put_u7_at(out, 5, e / 1024 % 256);
+    put_u7_at(out, 6, flags);
+    put_u7_at(out, 7, e % 256);
 }
 
 // Writes bank maps, one after another.
@@ -86,11 +69,12 @@ pub fn put_offset(out: &mut [u8], o: u16, d: bool)
     ensures { λ _. ⌜ now (out .exit) ≡ front (part-offset o d) (now (out .entry)) ⌝ }
 {
     let f = flag(d);
-    fields::put_fields(
-        out,
-        [1, 1, 1, 1, 2, 1, 0, 0, 0, 0, 0, 0, 0, 0, 0, 0],
-        [0, 0, 1, 3, o as u64, f, 0, 0, 0, 0, 0, 0, 0, 0, 0, 0],
-    );
+    out[0] = 0x00;
+    out[1] = 0x00;
+    out[2] = 0x01;
+    out[3] = 0x03;
+    put_u14_at(out, 4, o as u64);
+    put_u7_at(out, 6, f);
 }
 
 // Writes a WAV map.
@@ -98,29 +82,13 @@ pub fn put_wav(out: &mut [u8], m: WAVMap)
     requires { ⌜ 9 ≤ length (now out) ⌝ }
     ensures { λ _. ⌜ now (out .exit) ≡ front (written wav-map m) (now (out .entry)) ⌝ }
 {
-    let fine = scales::biased_14(m.fine);
-    fields::put_fields(
-        out,
-        [2, 1, 1, 1, 1, 2, 1, 0, 0, 0, 0, 0, 0, 0, 0, 0],
-        [
-            m.dst_bank as u64,
-            m.dst_prog as u64,
-            m.base as u64,
-            m.lokey as u64,
-            m.hikey as u64,
-            fine,
-            m.volume as u64,
-            0,
-            0,
-            0,
-            0,
-            0,
-            0,
-            0,
-            0,
-            0,
-        ],
-    );
+    put_u14_at(out, 0, m.dst_bank as u64);
+    put_u7_at(out, 2, m.dst_prog as u64);
+    put_u7_at(out, 3, m.base as u64);
+    put_u7_at(out, 4, m.lokey as u64);
+    put_u7_at(out, 5, m.hikey as u64);
+    put_i14_at(out, 6, m.fine);
+    put_u7_at(out, 8, m.volume as u64);
 }
 
 // Writes a WAV map and an offset.

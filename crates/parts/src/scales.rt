@@ -1,29 +1,26 @@
 // Scales: the adjustments of twelve semitones.
+use crate::places::put_i7_at;
+use crate::places::put_i14_at;
 use messages::tuning::Scale1Byte;
 use messages::tuning::Scale2Byte;
-use util::fields;
-use util::signed;
 ghost use mathlib.Core.Path.{_≡_};
-ghost use Prim.Native.Nat.{_≤_};
+ghost use Prim.Native.Nat.{_+_, _≤_};
 ghost use lib.ListN.{length};
-ghost use Rattle.util.specs.Groups.{held};
-ghost use Rattle.util.specs.Signed.{biased};
-ghost use Rattle.util.specs.Splice.{front};
+ghost use Rattle.util.specs.Splice.{front, splice};
 ghost use Rattle.messages.specs.format.Core.{written};
+ghost use Rattle.messages.specs.Fields.{s7, s14};
 ghost use Rattle.messages.specs.Structures.{scale-1, scale-2};
+ghost use Rattle.parts.specs.Writing.{four};
 
-// A signed value held to one group, plus 64.
-pub fn biased_7(v: i8) -> u64
-    ensures { λ r. ⌜ r ≡ held 1 (biased 64 v) ⌝ }
+// Writes four signed values of one byte each.
+fn put_four_1(out: &mut [u8], at: usize, a: i8, b: i8, c: i8, d: i8)
+    requires { ⌜ at + 4 ≤ length (now out) ⌝ }
+    ensures { λ _. ⌜ now (out .exit) ≡ splice (now (out .entry)) at (four s7 a b c d) ⌝ }
 {
-    signed::i_to_u7(v) as u64
-}
-
-// A signed value held to two groups, plus 8,192.
-pub fn biased_14(v: i16) -> u64
-    ensures { λ r. ⌜ r ≡ held 2 (biased 8192 v) ⌝ }
-{
-    signed::i_to_u14(v) as u64
+    put_i7_at(out, at, a);
+    put_i7_at(out, at + 1, b);
+    put_i7_at(out, at + 2, c);
+    put_i7_at(out, at + 3, d);
 }
 
 // Writes twelve signed values of one byte each.
@@ -31,40 +28,20 @@ pub fn put_scale_1(out: &mut [u8], s: Scale1Byte)
     requires { ⌜ 12 ≤ length (now out) ⌝ }
     ensures { λ _. ⌜ now (out .exit) ≡ front (written scale-1 s) (now (out .entry)) ⌝ }
 {
-    let c = biased_7(s.c);
-    let c_sharp = biased_7(s.c_sharp);
-    let d = biased_7(s.d);
-    let d_sharp = biased_7(s.d_sharp);
-    let e = biased_7(s.e);
-    let f = biased_7(s.f);
-    let f_sharp = biased_7(s.f_sharp);
-    let g = biased_7(s.g);
-    let g_sharp = biased_7(s.g_sharp);
-    let a = biased_7(s.a);
-    let a_sharp = biased_7(s.a_sharp);
-    let b = biased_7(s.b);
-    fields::put_fields(
-        out,
-        [1, 1, 1, 1, 1, 1, 1, 1, 1, 1, 1, 1, 0, 0, 0, 0],
-        [
-            c,
-            c_sharp,
-            d,
-            d_sharp,
-            e,
-            f,
-            f_sharp,
-            g,
-            g_sharp,
-            a,
-            a_sharp,
-            b,
-            0,
-            0,
-            0,
-            0,
-        ],
-    );
+    put_four_1(out, 0, s.c, s.c_sharp, s.d, s.d_sharp);
+    put_four_1(out, 4, s.e, s.f, s.f_sharp, s.g);
+    put_four_1(out, 8, s.g_sharp, s.a, s.a_sharp, s.b);
+}
+
+// Writes four signed values of two bytes each.
+fn put_four_2(out: &mut [u8], at: usize, a: i16, b: i16, c: i16, d: i16)
+    requires { ⌜ at + 8 ≤ length (now out) ⌝ }
+    ensures { λ _. ⌜ now (out .exit) ≡ splice (now (out .entry)) at (four s14 a b c d) ⌝ }
+{
+    put_i14_at(out, at, a);
+    put_i14_at(out, at + 2, b);
+    put_i14_at(out, at + 4, c);
+    put_i14_at(out, at + 6, d);
 }
 
 // Writes twelve signed values of two bytes each.
@@ -72,38 +49,7 @@ pub fn put_scale_2(out: &mut [u8], s: Scale2Byte)
     requires { ⌜ 24 ≤ length (now out) ⌝ }
     ensures { λ _. ⌜ now (out .exit) ≡ front (written scale-2 s) (now (out .entry)) ⌝ }
 {
-    let c = biased_14(s.c);
-    let c_sharp = biased_14(s.c_sharp);
-    let d = biased_14(s.d);
-    let d_sharp = biased_14(s.d_sharp);
-    let e = biased_14(s.e);
-    let f = biased_14(s.f);
-    let f_sharp = biased_14(s.f_sharp);
-    let g = biased_14(s.g);
-    let g_sharp = biased_14(s.g_sharp);
-    let a = biased_14(s.a);
-    let a_sharp = biased_14(s.a_sharp);
-    let b = biased_14(s.b);
-    fields::put_fields(
-        out,
-        [2, 2, 2, 2, 2, 2, 2, 2, 2, 2, 2, 2, 0, 0, 0, 0],
-        [
-            c,
-            c_sharp,
-            d,
-            d_sharp,
-            e,
-            f,
-            f_sharp,
-            g,
-            g_sharp,
-            a,
-            a_sharp,
-            b,
-            0,
-            0,
-            0,
-            0,
-        ],
-    );
+    put_four_2(out, 0, s.c, s.c_sharp, s.d, s.d_sharp);
+    put_four_2(out, 8, s.e, s.f, s.f_sharp, s.g);
+    put_four_2(out, 16, s.g_sharp, s.a, s.a_sharp, s.b);
 }

@@ -1,24 +1,16 @@
--- Laws of tunings, flags and signed values as they are written.
+-- Laws of tunings and flags as they are written.
 -- Assumes nothing.
-use mathlib.Core.Path.{_≡_, refl, sym, ap, ap₂, _∙_}
+use mathlib.Core.Path.{_≡_, refl, _∙_}
 use mathlib.Core.Bool.{Bool, true, false}
-use mathlib.Core.List.{List, _++_}
-use Prim.Native.Nat.{ℕ, zero, suc, _+_, _*_, _/_, _%_, _^_, _≤_, _<_}
+use Prim.Native.Nat.{ℕ, zero, suc, _+_, _*_, _/_, _%_, _≤_, _<_}
 use native.Mathlib.Omega.{arith}
-use lib.IntN.{ℤ}
-use lib.Signed.{mag}
-use mir.Syntax.{Width}
-use mir.Val.{hbits, toZ, ofZ}
 use borrow.Author.Tests.{lt-ltb, le-ltb}
 use Rattle.util.specs.Groups.{groups, held}
 use Rattle.util.specs.Fields.{tuning-bytes, no-tuning-bytes}
-use Rattle.util.specs.Signed.{biased, unbiased}
-use Rattle.util.proofs.Laws.Signed.{biased-unbiased, held-read}
 use Rattle.messages.specs.declared.tuning.MaybeTuning.{MaybeTuning}
 use Rattle.messages.specs.format.Core.{written}
-use Rattle.messages.specs.format.Numbers.{unsigned, unsigned-high}
+use Rattle.messages.specs.format.Numbers.{unsigned-high}
 use Rattle.messages.specs.format.Sequence.{_⊗_}
-use Rattle.messages.specs.format.Views.{via}
 use Rattle.messages.specs.Fields.{u7, flag, flags, bit, is-set, tuning, semitone-fraction, tuning-named, tuning-same, is-none}
 use Rattle.messages.specs.Entries.{tuning-of}
 use Rattle.messages.proofs.Formats.{via-written}
@@ -50,16 +42,3 @@ flags-are (suc zero) (suc zero) h g = refl
 flags-are (suc (suc a)) b h g = absurd (omega arith)
 flags-are zero (suc (suc b)) h g = absurd (omega arith)
 flags-are (suc zero) (suc (suc b)) h g = absurd (omega arith)
-
--- ---- signed values
-
--- a number that is the held value of a signed z, read back from its bits, is written as z is
-pub signed-is : (w : Width) (k o u : ℕ) (z : ℤ) → mag z < 2 ^ hbits w → u ≡ held k (biased o (toZ w (ofZ w z)))
-    → groups k (held k u) ≡ written (via (biased o) (unbiased o) (unsigned k) (λ v h. biased-unbiased o v)) z
-signed-is w k o u z f e =
-    ap (groups k) (held-read w k o u z (record { sfits = f }) e)
-    ∙ sym (via-written (biased o) (unbiased o) (unsigned k) (λ v h. biased-unbiased o v) z refl)
-
--- two lists one after another, each by other words
-pub join : {a b c d : List ℕ} → a ≡ b → c ≡ d → a ++ c ≡ b ++ d
-join e f = ap₂ (λ (x y : List ℕ). x ++ y) e f

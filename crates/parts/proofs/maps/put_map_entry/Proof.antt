@@ -1,19 +1,17 @@
--- `parts::maps::put_map_entry` meets its contract: the table of its fields is the layout.
+-- `parts::maps::put_map_entry` meets its contract: each value follows the one before.
 -- Assumes nothing.
-use mathlib.Core.List.{List, _++_}
-use mathlib.Core.Path.{sym, ap, _∙_}
-use Prim.Native.Nat.{_/_, ℕ, _%_}
+use mathlib.Core.Path.{_≡_, refl, sym, ap, _∙_}
+use Prim.Native.Nat.{_/_, _%_, min}
 use native.Mathlib.Omega.{arith}
 use denote.Ref.{now}
 use borrow.Author.Needs.{needs}
 use Rattle.util.specs.Groups.{groups, held}
-use Rattle.parts.proofs.Laws.Numbers.{flags-are, join}
-use Rattle.parts.proofs.Laws.Fronts.{fronts}
+use Rattle.messages.specs.format.Core.{written}
+use Rattle.messages.specs.Fields.{flags, is-set}
+use Rattle.parts.proofs.Laws.Numbers.{flags-are}
+use Rattle.parts.proofs.Laws.Places.{wrote, then, splices}
 use Rattle.parts.proofs.maps.put_map_entry.Statement.{statement}
 use Rattle.parts.proofs.maps.put_map_entry.Tie as tie
-
-hold-requires : tie.Need-hold-requires
-hold-requires c κs = search needs
 
 mul-flags : tie.Need-mul-flags
 mul-flags c = search needs
@@ -21,23 +19,65 @@ mul-flags c = search needs
 add-flags : tie.Need-add-flags
 add-flags c = search needs
 
-put-fields-requires : tie.Need-put-fields-requires
-put-fields-requires c κs = search needs
+put-u14-at-requires : tie.Need-put-u14-at-requires
+put-u14-at-requires c κs = search needs
+
+put-u7-at-requires : tie.Need-put-u7-at-requires
+put-u7-at-requires c κs = search needs
+
+put-u14-at-requires-2 : tie.Need-put-u14-at-requires-2
+put-u14-at-requires-2 c κs = search needs
+
+put-u7-at-requires-2 : tie.Need-put-u7-at-requires-2
+put-u7-at-requires-2 c κs = search needs
+
+put-u7-at-requires-3 : tie.Need-put-u7-at-requires-3
+put-u7-at-requires-3 c κs = search needs
+
+put-u7-at-requires-4 : tie.Need-put-u7-at-requires-4
+put-u7-at-requires-4 c κs = search needs
 
 same-length : tie.Need-same-length
 same-length c = search needs
 
 returns : tie.Need-returns
 returns c =
-    let s = c .before .before .before .before .before .before in
-    let h = c .before .before .before .before .hold in
+    let p6 = c .before .before in
+    let p5 = p6 .before .before .before .before in
+    let p4 = p5 .before .before .before .before in
+    let p3 = p4 .before .before .before .before in
+    let p2 = p3 .before .before .before .before in
+    let p1 = p2 .before .before .before .before in
+    let s = p1 .before .before .before in
+    let x = now (s .args .out) in
     let e = s .args .e in
-    c .before .before .put-fields .ensures .1
-    ∙ fronts (now (s .args .out))
-    (join (ap (λ (b : ℕ). groups 2 (held 2 b)) (h .ensures))
-    (ap (λ (f : List ℕ). groups 1 (held 1 (e / 17179869184 % 256)) ++ (groups 2 (held 2 (e / 262144 % 65536)) ++ (groups 1 (held 1 (e / 1024 % 256)) ++ (f ++ groups 1 (held 1 (e % 256))))))
-    (sym (flags-are (e / 512 % 2) (e / 256 % 2) (omega arith) (omega arith)))))
+    let w1 = p1 .put-u14-at in
+    let w2 = p2 .put-u7-at in
+    let w3 = p3 .put-u14-at2 in
+    let w4 = p4 .put-u7-at2 in
+    let w5 = p5 .put-u7-at3 in
+    let w6 = p6 .put-u7-at4 in
+    let bank = e / 4398046511104 in
+    let q : held 2 bank ≡ held 2 (min bank 65535) = omega arith in
+    let f = sym (flags-are (e / 512 % 2) (e / 256 % 2) (omega arith) (omega arith)) in
+    let r1 = wrote x 0 (groups 2 (held 2 (min bank 65535))) (w1 .last .0) 2 refl (omega (arith, s .pre)) (w1 .ensures ∙ splices x 0 (ap (groups 2) q)) in
+    let r2 = then r1 (groups 1 (held 1 (e / 17179869184 % 256))) (w2 .last .0) 1 refl (omega (arith, s .pre)) (w2 .ensures) in
+    let r3 = then r2 (groups 2 (held 2 (e / 262144 % 65536))) (w3 .last .0) 2 refl (omega (arith, s .pre)) (w3 .ensures) in
+    let r4 = then r3 (groups 1 (held 1 (e / 1024 % 256))) (w4 .last .0) 1 refl (omega (arith, s .pre)) (w4 .ensures) in
+    let r5 = then r4 (written flags (is-set (e / 512 % 2), is-set (e / 256 % 2))) (w5 .last .0) 1 refl (omega (arith, s .pre)) (w5 .ensures ∙ splices (w4 .last .0) 6 f) in
+    then r5 (groups 1 (held 1 (e % 256))) (w6 .last .0) 1 refl (omega (arith, s .pre)) (w6 .ensures) .is
 
 pub put-map-entry-spec : {M : Type 1} → statement M
 put-map-entry-spec =
-    tie.close (tie.spec hold-requires mul-flags add-flags put-fields-requires same-length returns)
+    tie.close
+    (tie.spec
+    mul-flags
+    add-flags
+    put-u14-at-requires
+    put-u7-at-requires
+    put-u14-at-requires-2
+    put-u7-at-requires-2
+    put-u7-at-requires-3
+    put-u7-at-requires-4
+    same-length
+    returns)

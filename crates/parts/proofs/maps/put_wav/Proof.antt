@@ -1,66 +1,103 @@
--- `parts::maps::put_wav` meets its contract: the table of its fields is the layout.
+-- `parts::maps::put_wav` meets its contract: each value follows the one before.
 -- Assumes nothing.
-use mathlib.Core.List.{List, _++_}
-use mathlib.Core.Path.{ap, _∙_}
-use Prim.Native.Nat.{ℕ}
-use mir.Syntax.{w16}
+use mathlib.Core.Path.{refl, _∙_}
+use native.Mathlib.Omega.{arith}
 use denote.Ref.{now}
+use mir.Syntax.{w16}
 use borrow.Author.Needs.{needs}
 use Rattle.util.specs.Groups.{groups, held}
-use Rattle.parts.proofs.Laws.Fronts.{fronts}
-use Rattle.parts.proofs.Laws.Numbers.{signed-is}
+use Rattle.messages.specs.format.Core.{written}
+use Rattle.messages.specs.Fields.{s14}
+use Rattle.parts.proofs.Laws.Places.{wrote, then, splices, read-is}
 use Rattle.parts.proofs.maps.put_wav.Statement.{statement}
 use Rattle.parts.proofs.maps.put_wav.Tie as tie
 
-biased-14-requires : tie.Need-biased-14-requires
-biased-14-requires c κs = search needs
+cast-put-u14-at : tie.Need-cast-put-u14-at
+cast-put-u14-at c = search needs
 
-cast-t8 : tie.Need-cast-t8
-cast-t8 c = search needs
+put-u14-at-requires : tie.Need-put-u14-at-requires
+put-u14-at-requires c κs = search needs
 
-cast-t9 : tie.Need-cast-t9
-cast-t9 c = search needs
+cast-put-u7-at : tie.Need-cast-put-u7-at
+cast-put-u7-at c = search needs
 
-cast-t10 : tie.Need-cast-t10
-cast-t10 c = search needs
+put-u7-at-requires : tie.Need-put-u7-at-requires
+put-u7-at-requires c κs = search needs
 
-cast-t11 : tie.Need-cast-t11
-cast-t11 c = search needs
+cast-put-u7-at-2 : tie.Need-cast-put-u7-at-2
+cast-put-u7-at-2 c = search needs
 
-cast-t12 : tie.Need-cast-t12
-cast-t12 c = search needs
+put-u7-at-requires-2 : tie.Need-put-u7-at-requires-2
+put-u7-at-requires-2 c κs = search needs
 
-cast-t13 : tie.Need-cast-t13
-cast-t13 c = search needs
+cast-put-u7-at-3 : tie.Need-cast-put-u7-at-3
+cast-put-u7-at-3 c = search needs
 
-put-fields-requires : tie.Need-put-fields-requires
-put-fields-requires c κs = search needs
+put-u7-at-requires-3 : tie.Need-put-u7-at-requires-3
+put-u7-at-requires-3 c κs = search needs
+
+cast-put-u7-at-4 : tie.Need-cast-put-u7-at-4
+cast-put-u7-at-4 c = search needs
+
+put-u7-at-requires-4 : tie.Need-put-u7-at-requires-4
+put-u7-at-requires-4 c κs = search needs
+
+put-i14-at-requires : tie.Need-put-i14-at-requires
+put-i14-at-requires c κs = omega (arith, c .before .before .before .before .before .before .before .before .before .before)
+
+cast-put-u7-at-5 : tie.Need-cast-put-u7-at-5
+cast-put-u7-at-5 c = search needs
+
+put-u7-at-requires-5 : tie.Need-put-u7-at-requires-5
+put-u7-at-requires-5 c κs = omega (arith, c .before .before .before .before .before .before .before .before .before .before .before .before .before .before)
 
 same-length : tie.Need-same-length
-same-length c = search needs
+same-length c = omega (arith, c .before .before .before .before .before .before .before .before .before .before .before .before .before .before .before .before)
 
 returns : tie.Need-returns
 returns c =
-    let b = c .before .before .before .before .before .before .before .before .before .before in
-    let s = b .before .before .before .args in
-    let m = s .m in
-    let e = signed-is w16 2 8192 _ (m .fine) (b .before .struct-told .given .1 .1 .1 .1 .1 .0 .1) (b .biased-14 .ensures) in
-    c .before .before .put-fields .ensures .1
-    ∙ fronts (now (s .out))
-    (ap (λ (l : List ℕ). groups 2 (held 2 (m .«dst_bank»)) ++ (groups 1 (held 1 (m .«dst_prog»)) ++ (groups 1 (held 1 (m .base))
-    ++ (groups 1 (held 1 (m .lokey)) ++ (groups 1 (held 1 (m .hikey)) ++ (l ++ groups 1 (held 1 (m .volume)))))))) e)
+    let p7 = c .before .before in
+    let p6 = p7 .before .before .before .before .before in
+    let p5 = p6 .before .before .before .before .before in
+    let p4 = p5 .before .before .before .before .before in
+    let p3 = p4 .before .before .before .before .before in
+    let p2 = p3 .before .before .before .before .before in
+    let p1 = p2 .before .before .before .before .before in
+    let s = p1 .before .before .before .before in
+    let x = now (s .args .out) in
+    let m = s .args .m in
+    let w1 = p1 .put-u14-at in
+    let w2 = p2 .put-u7-at in
+    let w3 = p3 .put-u7-at2 in
+    let w4 = p4 .put-u7-at3 in
+    let w5 = p5 .put-u7-at4 in
+    let w6 = p6 .put-i14-at in
+    let w7 = p7 .put-u7-at5 in
+    let q = read-is w16 s14 (m .fine) (record { sfits = p6 .before .struct-told .given .1 .1 .1 .1 .1 .0 .1 }) in
+    let r1 = wrote x 0 (groups 2 (held 2 (m .«dst_bank»))) (w1 .last .0) 2 refl (omega (arith, s .pre)) (w1 .ensures) in
+    let r2 = then r1 (groups 1 (held 1 (m .«dst_prog»))) (w2 .last .0) 1 refl (omega (arith, s .pre)) (w2 .ensures) in
+    let r3 = then r2 (groups 1 (held 1 (m .base))) (w3 .last .0) 1 refl (omega (arith, s .pre)) (w3 .ensures) in
+    let r4 = then r3 (groups 1 (held 1 (m .lokey))) (w4 .last .0) 1 refl (omega (arith, s .pre)) (w4 .ensures) in
+    let r5 = then r4 (groups 1 (held 1 (m .hikey))) (w5 .last .0) 1 refl (omega (arith, s .pre)) (w5 .ensures) in
+    let r6 = then r5 (written s14 (m .fine)) (w6 .last .0) 2 refl (omega (arith, s .pre)) (w6 .ensures ∙ splices (w5 .last .0) 6 q) in
+    then r6 (groups 1 (held 1 (m .volume))) (w7 .last .0) 1 refl (omega (arith, s .pre)) (w7 .ensures) .is
 
 pub put-wav-spec : {M : Type 1} → statement M
 put-wav-spec =
     tie.close
     (tie.spec
-    biased-14-requires
-    cast-t8
-    cast-t9
-    cast-t10
-    cast-t11
-    cast-t12
-    cast-t13
-    put-fields-requires
+    cast-put-u14-at
+    put-u14-at-requires
+    cast-put-u7-at
+    put-u7-at-requires
+    cast-put-u7-at-2
+    put-u7-at-requires-2
+    cast-put-u7-at-3
+    put-u7-at-requires-3
+    cast-put-u7-at-4
+    put-u7-at-requires-4
+    put-i14-at-requires
+    cast-put-u7-at-5
+    put-u7-at-requires-5
     same-length
     returns)
