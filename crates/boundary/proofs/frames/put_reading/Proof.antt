@@ -1,4 +1,4 @@
--- `boundary::reading::put_reading` meets its contract: the message behind four numbers.
+-- `boundary::frames::put_reading` meets its contract: the message behind four numbers.
 -- Assumes nothing.
 use mathlib.Core.Path.{ap, _∙_}
 use mathlib.Core.List.{_∷_}
@@ -11,8 +11,8 @@ use Rattle.to_numbers.specs.Numbers.{numbers-of}
 use Rattle.boundary.proofs.Laws.{behind-length, behind-four}
 use Rattle.boundary.proofs.Counts.{at-most-16}
 use borrow.Author.Needs.{needs}
-use Rattle.boundary.proofs.reading.put_reading.Statement.{statement}
-use Rattle.boundary.proofs.reading.put_reading.Tie as tie
+use Rattle.boundary.proofs.frames.put_reading.Statement.{statement}
+use Rattle.boundary.proofs.frames.put_reading.Tie as tie
 
 sub-to-numbers : tie.Need-sub-to-numbers
 sub-to-numbers c = search needs

@@ -1,11 +1,11 @@
--- `boundary::reading::read_for` meets its contract: the answer of the reader, and its numbers.
+-- `boundary::frames::read_any` meets its contract: the answer of the reader, and its numbers.
 -- Assumes nothing.
 use mathlib.Core.Path.{refl}
 use Rattle.reader.specs.declared.lent.Reading.the-variants as reading
 use Rattle.boundary.proofs.Laws.{met-as}
 use borrow.Author.Needs.{needs}
-use Rattle.boundary.proofs.reading.read_for.Statement.{statement}
-use Rattle.boundary.proofs.reading.read_for.Tie as tie
+use Rattle.boundary.proofs.frames.read_any.Statement.{statement}
+use Rattle.boundary.proofs.frames.read_any.Tie as tie
 
 read-requires : tie.Need-read-requires
 read-requires c κs = search needs
@@ -61,8 +61,8 @@ returns-2 c = let v = c .before .before in
       answer-is = refl;
     }
 
-pub read-for-spec : {M : Type 1} → statement M
-read-for-spec =
+pub read-any-spec : {M : Type 1} → statement M
+read-any-spec =
     tie.close
     (tie.spec
     read-requires
