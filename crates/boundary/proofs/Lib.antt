@@ -1,3 +1,5 @@
 pub mod Laws
 pub mod Counts
+pub mod Plain
+pub mod Handshake
 pub mod Promises

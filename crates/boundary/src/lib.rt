@@ -1,7 +1,7 @@
 // What programs outside link: each function takes numbers and slices, and answers the number of a refusal, 0 where nothing is refused.
+mod frames;
 mod identity;
 mod kinds;
-mod read;
 mod walking;
 
 use kinds::Named;
@@ -69,7 +69,7 @@ pub extern "C" fn pasoreum_read(
         Named::Kind(k) => if answer.len() < 20 {
             66
         } else {
-            read::read_for(frame, k, data, entries, answer)
+            frames::read_for(frame, k, data, entries, answer)
         },
         Named::Neither => 65,
     }

@@ -25,8 +25,9 @@ fn i14_at(f: &[u8], i: usize) -> i16
     requires { ⌜ Seven (now f) × (i + 2 ≤ length (now f)) ⌝ }
     ensures { λ r. ⌜ r ≡ unbiased 8192 (value-at 2 (now (f .entry)) i) ⌝ }
 {
-    let v = groups::u14_at(f, i);
-    signed::u14_to_i(v)
+    let a = f[i];
+    let b = f[i + 1];
+    signed::u14_to_i(a as u16 + 128 * (b as u16))
 }
 
 // Twelve signed values of one group each, from i on.

@@ -1,11 +1,20 @@
+<<<<<<<< HEAD:crates/boundary/proofs/read/read_for/Proof.antt
 -- `boundary::read::read_for` meets its contract: the answer of the reader, and its numbers.
+========
+-- `boundary::frames::read_any` meets its contract: the answer of the reader, and its numbers.
+>>>>>>>> 53be563b86214c700e5146f0447c619afd7516e9:crates/boundary/proofs/frames/read_any/Proof.antt
 -- Assumes nothing.
 use mathlib.Core.Path.{refl}
 use Rattle.reader.specs.declared.lent.Reading.the-variants as reading
 use Rattle.boundary.proofs.Laws.{met-as}
 use borrow.Author.Needs.{needs}
+<<<<<<<< HEAD:crates/boundary/proofs/read/read_for/Proof.antt
 use Rattle.boundary.proofs.read.read_for.Statement.{statement}
 use Rattle.boundary.proofs.read.read_for.Tie as tie
+========
+use Rattle.boundary.proofs.frames.read_any.Statement.{statement}
+use Rattle.boundary.proofs.frames.read_any.Tie as tie
+>>>>>>>> 53be563b86214c700e5146f0447c619afd7516e9:crates/boundary/proofs/frames/read_any/Proof.antt
 
 read-requires : tie.Need-read-requires
 read-requires c κs = search needs
@@ -61,8 +70,8 @@ returns-2 c = let v = c .before .before in
       answer-is = refl;
     }
 
-pub read-for-spec : {M : Type 1} → statement M
-read-for-spec =
+pub read-any-spec : {M : Type 1} → statement M
+read-any-spec =
     tie.close
     (tie.spec
     read-requires
