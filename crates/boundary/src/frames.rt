@@ -1,22 +1,32 @@
 // Reading, its answer in numbers.
 use messages::file_reference::Kind;
+use messages::head::Head;
 use messages::system_exclusive::DeviceID;
 use messages::system_exclusive::UniversalNonRealTimeMsg;
+use read_sample_dump::sample_dump::header;
 use reader::lent::Reading;
+use reader::opening::Opening;
+use reading::Found;
 use reading::device_of;
+use to_numbers::sample_dump;
 use to_numbers::values::device_number;
+use util::groups::at;
 ghost use mathlib.Core.Path.{_≡_};
 ghost use mathlib.Core.List.{[], _∷_};
 ghost use Prim.Native.Nat.{_≤_, _<_};
 ghost use lib.ListN.{length};
 ghost use Rattle.util.specs.Splice.{front};
+ghost use Rattle.messages.specs.declared.head.Head.the-variants as head;
 ghost use Rattle.reader.specs.declared.lent.Reading.the-variants as reading;
+ghost use Rattle.reader.specs.declared.opening.Opening.the-variants as opening;
+ghost use Rattle.reader.specs.Opening.{opens-as, placed};
+ghost use Rattle.reader.specs.Body.{inner};
 ghost use Rattle.messages.specs.declared.«file_reference».Kind.{Kind};
 ghost use Rattle.messages.specs.Fields.{device-of};
 ghost use Rattle.messages.specs.Messages.{readOf};
 ghost use Rattle.numbers.specs.Values.{device-number-of};
 ghost use Rattle.boundary.specs.Read.{ReadFor, reading-numbers};
-ghost use Rattle.boundary.specs.Plain.{ReadPlain, six};
+ghost use Rattle.boundary.specs.Plain.{ReadTo, ReadPlain, Numbered, six};
 
 // Puts the numbers of a reading at the start of the answer.
 fn put_reading(
@@ -96,18 +106,86 @@ fn put_handshake(frame: &[u8], answer: &mut [u64]) -> bool
     put_packet(answer, device, frame[3], packet)
 }
 
-// Reads any frame for a kind of sound file.
-fn read_any(
+// Puts the numbers of a sample dump message, which takes no lent places, at the start of the answer.
+fn put_sample(
+    answer: &mut [u64],
+    device: DeviceID,
+    m: UniversalNonRealTimeMsg,
+    from: usize,
+    len: usize,
+) -> bool
+    requires { ⌜ 20 ≤ length (now answer) ⌝ }
+    ensures { λ r. ⌜ Numbered r (reading.Frame device m from len 0) (now (answer .entry)) (now (answer .exit)) ⌝ }
+{
+    match m {
+        UniversalNonRealTimeMsg::SampleDump(s) => {
+            let d = device_number(device);
+            let count = sample_dump::put_message(&mut answer[4..], d, s);
+            answer[0] = count as u64;
+            answer[1] = from as u64;
+            answer[2] = len as u64;
+            answer[3] = 0;
+            true
+        }
+        _ => false,
+    }
+}
+
+// Reads the fields of a sample header.
+fn put_header(frame: &[u8], start: usize, end: usize, sum: bool, answer: &mut [u64]) -> bool
+    requires { ⌜ (20 ≤ length (now answer)) × placed (opening.Fields head.SampleDumpHeader start end sum) (inner (now frame)) ⌝ }
+    ensures { λ r. ⌜ ReadPlain r (opens-as (opening.Fields head.SampleDumpHeader start end sum) (inner (now (frame .entry)))) (now (frame .entry)) (now (answer .entry)) (now (answer .exit)) ⌝ }
+{
+    let a = 1 + start;
+    let e = 1 + end;
+    match header(&frame[a..e]) {
+        Found::Is {
+            m,
+            from,
+            len,
+            at: _,
+            count,
+        } => {
+            if count != 0 {
+                return false;
+            }
+            if sum {
+                let device = device_of(at(frame, 2));
+                put_sample(answer, device, m, a + from, len)
+            } else {
+                false
+            }
+        }
+        Found::Nothing => false,
+    }
+}
+
+// Reads the fields under a head whose messages need no lent space.
+fn put_plain(frame: &[u8], h: Head, start: usize, end: usize, sum: bool, answer: &mut [u64]) -> bool
+    requires { ⌜ (20 ≤ length (now answer)) × placed (opening.Fields h start end sum) (inner (now frame)) ⌝ }
+    ensures { λ r. ⌜ ReadPlain r (opens-as (opening.Fields h start end sum) (inner (now (frame .entry)))) (now (frame .entry)) (now (answer .entry)) (now (answer .exit)) ⌝ }
+{
+    match h {
+        Head::SampleDumpHeader => put_header(frame, start, end, sum, answer),
+        _ => false,
+    }
+}
+
+// Reads the fields under any head.
+fn read_part(
     frame: &[u8],
-    kind: Kind,
+    h: Head,
+    start: usize,
+    end: usize,
+    sum: bool,
     data: &mut [u8],
     entries: &mut [u64],
     answer: &mut [u64],
 ) -> u32
-    requires { ⌜ 20 ≤ length (now answer) ⌝ }
-    ensures { λ r. ⌜ ReadFor kind r (now (frame .entry)) (now («data» .entry)) (now («data» .exit)) (now (entries .entry)) (now (entries .exit)) (now (answer .entry)) (now (answer .exit)) ⌝ }
+    requires { ⌜ (20 ≤ length (now answer)) × placed (opening.Fields h start end sum) (inner (now frame)) ⌝ }
+    ensures { λ r. ⌜ ReadTo (opens-as (opening.Fields h start end sum) (inner (now (frame .entry)))) r (now (frame .entry)) (now («data» .entry)) (now («data» .exit)) (now (entries .entry)) (now (entries .exit)) (now (answer .entry)) (now (answer .exit)) ⌝ }
 {
-    match reader::read(frame, kind, data, entries) {
+    match reader::lent::read_part(frame, h, start, end, sum, data, entries) {
         Reading::Frame {
             device,
             m,
@@ -119,6 +197,52 @@ fn read_any(
             0
         }
         Reading::Refused(r) => r.number() as u32,
+    }
+}
+
+// Reads the fields that an opening has found.
+fn read_opened(
+    frame: &[u8],
+    h: Head,
+    start: usize,
+    end: usize,
+    sum: bool,
+    data: &mut [u8],
+    entries: &mut [u64],
+    answer: &mut [u64],
+) -> u32
+    requires { ⌜ (20 ≤ length (now answer)) × placed (opening.Fields h start end sum) (inner (now frame)) ⌝ }
+    ensures { λ r. ⌜ ReadTo (opens-as (opening.Fields h start end sum) (inner (now (frame .entry)))) r (now (frame .entry)) (now («data» .entry)) (now («data» .exit)) (now (entries .entry)) (now (entries .exit)) (now (answer .entry)) (now (answer .exit)) ⌝ }
+{
+    if put_plain(frame, h, start, end, sum, answer) {
+        return 0;
+    }
+    read_part(frame, h, start, end, sum, data, entries, answer)
+}
+
+// Reads any frame for a kind of sound file.
+fn read_any(
+    frame: &[u8],
+    kind: Kind,
+    data: &mut [u8],
+    entries: &mut [u64],
+    answer: &mut [u64],
+) -> u32
+    requires { ⌜ 20 ≤ length (now answer) ⌝ }
+    ensures { λ r. ⌜ ReadFor kind r (now (frame .entry)) (now («data» .entry)) (now («data» .exit)) (now (entries .entry)) (now (entries .exit)) (now (answer .entry)) (now (answer .exit)) ⌝ }
+{
+    match reader::opening_in(frame, kind) {
+        Opening::Fields { h, start, end, sum } => read_opened(
+            frame,
+            h,
+            start,
+            end,
+            sum,
+            data,
+            entries,
+            answer,
+        ),
+        Opening::Refused(r) => r.number() as u32,
     }
 }
 

@@ -1,7 +1,7 @@
 // Reads a frame: what it is, without writing; then its file data and entries into lent space.
 pub mod body;
 pub mod lent;
-mod opening;
+pub mod opening;
 mod test;
 
 use body::Body;
@@ -28,7 +28,7 @@ fn opening_shaped(frame: &[u8], kind: Kind) -> Opening
 }
 
 // The opening of a frame, for a kind of sound file.
-fn opening_in(frame: &[u8], kind: Kind) -> Opening
+pub fn opening_in(frame: &[u8], kind: Kind) -> Opening
     ensures { λ r. ⌜ Opens r (inner (now (frame .entry))) (readOf kind (now (frame .entry))) ⌝ }
 {
     if frame.len() < 6 {

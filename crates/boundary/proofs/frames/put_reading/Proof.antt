@@ -1,8 +1,4 @@
-<<<<<<<< HEAD:crates/boundary/proofs/read/put_reading/Proof.antt
--- `boundary::read::put_reading` meets its contract: the message behind four numbers.
-========
 -- `boundary::frames::put_reading` meets its contract: the message behind four numbers.
->>>>>>>> 53be563b86214c700e5146f0447c619afd7516e9:crates/boundary/proofs/frames/put_reading/Proof.antt
 -- Assumes nothing.
 use mathlib.Core.Path.{ap, _∙_}
 use mathlib.Core.List.{_∷_}
@@ -15,13 +11,8 @@ use Rattle.to_numbers.specs.Numbers.{numbers-of}
 use Rattle.boundary.proofs.Laws.{behind-length, behind-four}
 use Rattle.boundary.proofs.Counts.{at-most-16}
 use borrow.Author.Needs.{needs}
-<<<<<<<< HEAD:crates/boundary/proofs/read/put_reading/Proof.antt
-use Rattle.boundary.proofs.read.put_reading.Statement.{statement}
-use Rattle.boundary.proofs.read.put_reading.Tie as tie
-========
 use Rattle.boundary.proofs.frames.put_reading.Statement.{statement}
 use Rattle.boundary.proofs.frames.put_reading.Tie as tie
->>>>>>>> 53be563b86214c700e5146f0447c619afd7516e9:crates/boundary/proofs/frames/put_reading/Proof.antt
 
 sub-to-numbers : tie.Need-sub-to-numbers
 sub-to-numbers c = search needs

@@ -1,29 +1,34 @@
-<<<<<<<< HEAD:crates/boundary/proofs/read/read_for/Proof.antt
--- `boundary::read::read_for` meets its contract: the answer of the reader, and its numbers.
-========
--- `boundary::frames::read_any` meets its contract: the answer of the reader, and its numbers.
->>>>>>>> 53be563b86214c700e5146f0447c619afd7516e9:crates/boundary/proofs/frames/read_any/Proof.antt
+-- `boundary::frames::read_any` meets its contract: what the opening has found, or its refusal.
 -- Assumes nothing.
-use mathlib.Core.Path.{refl}
+use mathlib.Core.Path.{refl, subst}
+use denote.Ref.{now}
+use Rattle.messages.specs.Messages.{readOf}
 use Rattle.reader.specs.declared.lent.Reading.the-variants as reading
-use Rattle.boundary.proofs.Laws.{met-as}
+use Rattle.reader.specs.declared.opening.Opening.{Opening}
+use Rattle.reader.specs.declared.opening.Opening.the-variants as opening
+use Rattle.reader.specs.Opening.{Opens}
+use Rattle.reader.specs.Body.{inner}
+use Rattle.reader.proofs.Laws.Met.{read-refused}
+use Rattle.boundary.proofs.Plain.{to-for}
 use borrow.Author.Needs.{needs}
-<<<<<<<< HEAD:crates/boundary/proofs/read/read_for/Proof.antt
-use Rattle.boundary.proofs.read.read_for.Statement.{statement}
-use Rattle.boundary.proofs.read.read_for.Tie as tie
-========
 use Rattle.boundary.proofs.frames.read_any.Statement.{statement}
 use Rattle.boundary.proofs.frames.read_any.Tie as tie
->>>>>>>> 53be563b86214c700e5146f0447c619afd7516e9:crates/boundary/proofs/frames/read_any/Proof.antt
 
-read-requires : tie.Need-read-requires
-read-requires c κs = search needs
+abbrev st : tie.After-h → tie.Start
+st v = v .before .before .before .before .before .before .before
 
-enum-known-device : tie.Need-enum-known-device
-enum-known-device c = search needs
+opened : (v : tie.After-h)
+    → Opens (opening.Fields (v .h .given .0 .0) (v .h .given .0 .1 .0) (v .h .given .0 .1 .1 .0) (v .h .given .0 .1 .1 .1 .0)) (inner (now (st v .args .frame))) (readOf (st v .args .kind) (now (st v .args .frame)))
+opened v = subst (λ (r : Opening). Opens r (inner (now (st v .args .frame))) (readOf (st v .args .kind) (now (st v .args .frame)))) (v .h .given .1) (v .before .before .opening-in .ensures)
 
-put-reading-requires : tie.Need-put-reading-requires
-put-reading-requires c κs = search needs
+opening-in-requires : tie.Need-opening-in-requires
+opening-in-requires c κs = search needs
+
+enum-known-h : tie.Need-enum-known-h
+enum-known-h c = search needs
+
+read-opened-requires : tie.Need-read-opened-requires
+read-opened-requires c κs = let v = c .before .before .before .before in (st v .pre, opened v .part)
 
 enum-known-r : tie.Need-enum-known-r
 enum-known-r c = search needs
@@ -44,28 +49,18 @@ same-length-3 : tie.Need-same-length-3
 same-length-3 c = search needs
 
 returns : tie.Need-returns
-returns c = let v = c .before .before .before .before .before in
-    let r = v .before .before .before .before .before .before .read in
-    let g = v .device .given .0 in
-    record {
-      reading = reading.Frame (g .0) (g .1 .0) (g .1 .1 .0) (g .1 .1 .1 .0) (g .1 .1 .1 .1 .0);
-      met = met-as (v .device .given .1) (r .ensures);
-      number-is = refl;
-      answer-is = c .before .before .put-reading .ensures;
-    }
-
-same-length-4 : tie.Need-same-length-4
-same-length-4 c = search needs
-
-same-length-5 : tie.Need-same-length-5
-same-length-5 c = search needs
+returns c = let l = c .before .before .before .before .before .before in
+    let v = l .before .before .before .before .before in
+    to-for (st v .args .kind) (opened v .says) (l .read-opened .ensures)
 
 returns-2 : tie.Need-returns-2
 returns-2 c = let v = c .before .before in
-    let r = v .before .before .before .before .before .before .read in
+    let s = v .before .before .before .before .before .before .before in
+    let l = now (s .args .frame) in
+    let o = subst (λ (r : Opening). Opens r (inner l) (readOf (s .args .kind) l)) (v .r .given .1) (v .before .before .opening-in .ensures) in
     record {
       reading = reading.Refused (v .r .given .0 .0);
-      met = met-as (v .r .given .1) (r .ensures);
+      met = read-refused (v .r .given .0 .0) (readOf (s .args .kind) l) l (now (s .args .«data»)) (now (s .args .entries)) (o .says);
       number-is = c .number .ensures;
       answer-is = refl;
     }
@@ -74,9 +69,9 @@ pub read-any-spec : {M : Type 1} → statement M
 read-any-spec =
     tie.close
     (tie.spec
-    read-requires
-    enum-known-device
-    put-reading-requires
+    opening-in-requires
+    enum-known-h
+    read-opened-requires
     enum-known-r
     number-requires
     cast-result
@@ -84,6 +79,4 @@ read-any-spec =
     same-length-2
     same-length-3
     returns
-    same-length-4
-    same-length-5
     returns-2)
