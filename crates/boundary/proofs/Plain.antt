@@ -7,11 +7,10 @@ use native.Mathlib.Omega.{arith}
 use lib.ListN.{length, getD}
 use borrow.Author.Tests.{le-leb}
 use Rattle.messages.specs.declared.head.Head.{Head}
-use Rattle.messages.specs.declared.«file_reference».Kind.{Kind}
 use Rattle.messages.specs.declared.«system_exclusive».DeviceID.{DeviceID}
 use Rattle.messages.specs.declared.«system_exclusive».UniversalNonRealTimeMsg.{UniversalNonRealTimeMsg}
 use Rattle.messages.specs.Fields.{device-of}
-use Rattle.messages.specs.Messages.{Message, Answer, readOf}
+use Rattle.messages.specs.Messages.{Message, Answer}
 use Rattle.reading.specs.declared.Found.the-variants.{Is}
 use Rattle.reading.specs.Found.{Reads, data-of, entries-of}
 use Rattle.reading.proofs.Laws.Answers.{false-true}
@@ -23,8 +22,8 @@ use Rattle.reader.specs.Body.{inner}
 use Rattle.reader.specs.Reading.{ReadMet}
 use Rattle.reader.specs.Filled.{enough, Filled}
 use Rattle.reader.proofs.Laws.Fields.{lent-fields, read-right}
-use Rattle.boundary.specs.Read.{ReadFor, reading-number}
-use Rattle.boundary.specs.Plain.{ReadTo, ReadPlain, Numbered}
+use Rattle.boundary.specs.Read.{ReadTo, reading-number}
+use Rattle.boundary.specs.Plain.{ReadPlain, Numbered}
 
 no-elements : (l : List ℕ) → length l ≡ 0 → l ≡ []
 no-elements [] e = refl
@@ -70,17 +69,8 @@ module _ (a : Answer Message) (frame answer answer′ : List ℕ) where
   other-to true r e n dat dat′ es es′ last x = absurd (false-true (sym e))
   other-to false r e n dat dat′ es es′ last x = subst (λ (l : List ℕ). ReadTo a n frame dat dat′ es es′ l last) r x
 
--- a reading for a kind
-pub to-for : (k : Kind) {a : Answer Message} {n : ℕ} {frame dat dat′ es es′ answer answer′ : List ℕ} → a ≡ readOf k frame
-    → ReadTo a n frame dat dat′ es es′ answer answer′ → ReadFor k n frame dat dat′ es es′ answer answer′
-to-for k {a} {n} {frame} {dat} {dat′} {es} {es′} {answer} {answer′} e x =
-    record {
-      reading = x .reading;
-      met = subst (λ (b : Answer Message). ReadMet (x .reading) b frame dat dat′ es es′) e (x .met);
-      number-is = x .number-is;
-      answer-is = x .answer-is;
-    }
-
-pub for-to : (k : Kind) {n : ℕ} {frame dat dat′ es es′ answer answer′ : List ℕ} → ReadFor k n frame dat dat′ es es′ answer answer′
-    → ReadTo (readOf k frame) n frame dat dat′ es es′ answer answer′
-for-to k x = record { reading = x .reading; met = x .met; number-is = x .number-is; answer-is = x .answer-is }
+-- a reading by other words
+pub read-to : {a b : Answer Message} {n : ℕ} {frame dat dat′ es es′ answer answer′ : List ℕ} → a ≡ b → ReadTo a n frame dat dat′ es es′ answer answer′
+    → ReadTo b n frame dat dat′ es es′ answer answer′
+read-to {a} {b} {n} {frame} {dat} {dat′} {es} {es′} {answer} {answer′} e x =
+    subst (λ (c : Answer Message). ReadTo c n frame dat dat′ es es′ answer answer′) e x

@@ -16,13 +16,6 @@ pub record ReadAny (a : Answer Message) (frame answer answer′ : List ℕ) : Ty
   pub number-is : 0 ≡ reading-number reading
   pub answer-is : answer′ ≡ front (reading-numbers reading) answer
 
--- a reading whose answer without lent space is a, and its numbers at the start of the answer
-pub record ReadTo (a : Answer Message) (n : ℕ) (frame dat dat′ es es′ answer answer′ : List ℕ) : Type 0 where
-  pub reading : Reading
-  pub met : ReadMet reading a frame dat dat′ es es′
-  pub number-is : n ≡ reading-number reading
-  pub answer-is : answer′ ≡ front (reading-numbers reading) answer
-
 -- the numbers of a reading were put, or they were not and the answer is kept
 abbrev pub Numbered : Bool → Reading → List ℕ → List ℕ → Type 0
 Numbered true r answer answer′ = answer′ ≡ front (reading-numbers r) answer

@@ -7,7 +7,7 @@ use lib.ListN.{length}
 use Rattle.util.specs.Splice.{front}
 use Rattle.util.specs.Refusals.{number}
 use Rattle.messages.specs.declared.«file_reference».Kind.{Kind}
-use Rattle.messages.specs.Messages.{readOf}
+use Rattle.messages.specs.Messages.{Message, Answer, readOf}
 use Rattle.reader.specs.declared.lent.Reading.{Reading}
 use Rattle.reader.specs.declared.lent.Reading.the-variants.{Frame, Refused}
 use Rattle.reader.specs.Reading.{ReadMet}
@@ -25,12 +25,16 @@ abbrev pub reading-numbers : Reading → List ℕ
 reading-numbers (Frame d m from len places) = length (numbers-of d m) ∷ from ∷ len ∷ places ∷ numbers-of d m
 reading-numbers (Refused r) = []
 
--- a reading for a kind, as the reader's contract has it, and its numbers at the start of the answer
-pub record ReadFor (k : Kind) (n : ℕ) (frame dat dat′ es es′ answer answer′ : List ℕ) : Type 0 where
+-- a reading whose answer without lent space is a, as the reader's contract has it, and its numbers at the start of the answer
+pub record ReadTo (a : Answer Message) (n : ℕ) (frame dat dat′ es es′ answer answer′ : List ℕ) : Type 0 where
   pub reading : Reading
-  pub met : ReadMet reading (readOf k frame) frame dat dat′ es es′
+  pub met : ReadMet reading a frame dat dat′ es es′
   pub number-is : n ≡ reading-number reading
   pub answer-is : answer′ ≡ front (reading-numbers reading) answer
+
+-- a reading for a kind
+abbrev pub ReadFor : Kind → ℕ → List ℕ → List ℕ → List ℕ → List ℕ → List ℕ → List ℕ → List ℕ → Type 0
+ReadFor k n frame dat dat′ es es′ answer answer′ = ReadTo (readOf k frame) n frame dat dat′ es es′ answer answer′
 
 -- a refusal of the boundary's own: all that was lent keeps its contents
 pub record Kept (refusal n : ℕ) (dat dat′ es es′ answer answer′ : List ℕ) : Type 0 where

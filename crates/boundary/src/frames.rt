@@ -25,8 +25,8 @@ ghost use Rattle.messages.specs.declared.«file_reference».Kind.{Kind};
 ghost use Rattle.messages.specs.Fields.{device-of};
 ghost use Rattle.messages.specs.Messages.{readOf};
 ghost use Rattle.numbers.specs.Values.{device-number-of};
-ghost use Rattle.boundary.specs.Read.{ReadFor, reading-numbers};
-ghost use Rattle.boundary.specs.Plain.{ReadTo, ReadPlain, Numbered, six};
+ghost use Rattle.boundary.specs.Read.{ReadTo, ReadFor, reading-numbers};
+ghost use Rattle.boundary.specs.Plain.{ReadPlain, Numbered, six};
 
 // Puts the numbers of a reading at the start of the answer.
 fn put_reading(

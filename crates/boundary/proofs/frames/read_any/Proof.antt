@@ -9,7 +9,7 @@ use Rattle.reader.specs.declared.opening.Opening.the-variants as opening
 use Rattle.reader.specs.Opening.{Opens}
 use Rattle.reader.specs.Body.{inner}
 use Rattle.reader.proofs.Laws.Met.{read-refused}
-use Rattle.boundary.proofs.Plain.{to-for}
+use Rattle.boundary.proofs.Plain.{read-to}
 use borrow.Author.Needs.{needs}
 use Rattle.boundary.proofs.frames.read_any.Statement.{statement}
 use Rattle.boundary.proofs.frames.read_any.Tie as tie
@@ -51,7 +51,7 @@ same-length-3 c = search needs
 returns : tie.Need-returns
 returns c = let l = c .before .before .before .before .before .before in
     let v = l .before .before .before .before .before in
-    to-for (st v .args .kind) (opened v .says) (l .read-opened .ensures)
+    read-to (opened v .says) (l .read-opened .ensures)
 
 returns-2 : tie.Need-returns-2
 returns-2 c = let v = c .before .before in

@@ -1,9 +1,8 @@
 -- `boundary::frames::read_for` meets its contract: a handshake, or any frame.
 -- Assumes nothing.
-use mathlib.Core.Path.{refl}
 use denote.Ref.{now}
 use Rattle.messages.specs.Messages.{readOf}
-use Rattle.boundary.proofs.Plain.{plain-to, other-to, to-for, for-to}
+use Rattle.boundary.proofs.Plain.{plain-to, other-to}
 use borrow.Author.Needs.{needs}
 use Rattle.boundary.proofs.frames.read_for.Statement.{statement}
 use Rattle.boundary.proofs.frames.read_for.Tie as tie
@@ -17,7 +16,7 @@ same-length c = search needs
 returns : tie.Need-returns
 returns c = let h = c .before .before .before in
     let s = h .before .before .before .before .before .before in
-    to-for (s .args .kind) refl (plain-to (readOf (s .args .kind) (now (s .args .frame))) (now (s .args .frame)) (now (s .args .answer)) _ (h .put-handshake .result) (h .put-handshake .ensures (s .args .kind)) (c .if1 .taken) (now (s .args .«data»)) (now (s .args .entries)))
+    plain-to (readOf (s .args .kind) (now (s .args .frame))) (now (s .args .frame)) (now (s .args .answer)) _ (h .put-handshake .result) (h .put-handshake .ensures (s .args .kind)) (c .if1 .taken) (now (s .args .«data»)) (now (s .args .entries))
 
 read-any-requires : tie.Need-read-any-requires
 read-any-requires c κs = search needs
@@ -36,7 +35,7 @@ returns-2 c = let r = c .before .before .before .before .before .before in
     let i = r .before .before .before .before in
     let h = i .before .before .before in
     let s = h .before .before .before .before .before .before in
-    to-for (s .args .kind) refl (other-to (readOf (s .args .kind) (now (s .args .frame))) (now (s .args .frame)) (now (s .args .answer)) _ (h .put-handshake .result) (h .put-handshake .ensures (s .args .kind)) (i .if1 .left) _ _ _ _ _ _ (for-to (s .args .kind) (r .read-any .ensures)))
+    other-to (readOf (s .args .kind) (now (s .args .frame))) (now (s .args .frame)) (now (s .args .answer)) _ (h .put-handshake .result) (h .put-handshake .ensures (s .args .kind)) (i .if1 .left) _ _ _ _ _ _ (r .read-any .ensures)
 
 pub read-for-spec : {M : Type 1} → statement M
 read-for-spec =
