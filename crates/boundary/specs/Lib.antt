@@ -1,7 +1,6 @@
 pub mod Kinds
 pub mod Write
 pub mod Read
-pub mod Plain
 pub mod Walk
 pub mod Identity
 pub mod Promises

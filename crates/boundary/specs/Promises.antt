@@ -13,7 +13,7 @@ use Rattle.numbers.specs.declared.Made.the-variants as made
 use Rattle.numbers.specs.Table.{message-of}
 use Rattle.reading.specs.Found.{text-in}
 use Rattle.writer.specs.Write.{written-at, written-number, written-value, output-after}
-use Rattle.boundary.specs.Read.{ReadFor}
+use Rattle.read_numbers.specs.Read.{ReadFor}
 use Rattle.boundary.specs.Write.{write-number, write-value, write-output}
 
 -- the message's numbers in an answer

@@ -1,40 +1,11 @@
--- What reading answers in numbers: as the reader does, or 65 for a kind that is neither, or 66 for an answer of fewer than 20 places.
+-- What reading answers in numbers: as `read_numbers` does, or 65 for a kind that is neither, or 66 for an answer of fewer than 20 places.
 use mathlib.Core.Path.{_≡_}
 use mathlib.Core.Bool.{Bool, true, false}
-use mathlib.Core.List.{List, [], _∷_}
+use mathlib.Core.List.{List}
 use Prim.Native.Nat.{ℕ}
-use lib.ListN.{length}
-use Rattle.util.specs.Splice.{front}
-use Rattle.util.specs.Refusals.{number}
-use Rattle.messages.specs.declared.«file_reference».Kind.{Kind}
-use Rattle.messages.specs.Messages.{Message, Answer, readOf}
-use Rattle.reader.specs.declared.lent.Reading.{Reading}
-use Rattle.reader.specs.declared.lent.Reading.the-variants.{Frame, Refused}
-use Rattle.reader.specs.Reading.{ReadMet}
-use Rattle.to_numbers.specs.Numbers.{numbers-of}
+use Rattle.read_numbers.specs.Read.{ReadFor}
 use Rattle.boundary.specs.declared.kinds.Named.{Named}
 use Rattle.boundary.specs.declared.kinds.Named.the-variants as named
-
--- the number of the refusal, 0 for none
-abbrev pub reading-number : Reading → ℕ
-reading-number (Frame d m from len places) = 0
-reading-number (Refused r) = number r
-
--- how many numbers the message has, the start and length of its part of the frame, its lent places, then the message's numbers
-abbrev pub reading-numbers : Reading → List ℕ
-reading-numbers (Frame d m from len places) = length (numbers-of d m) ∷ from ∷ len ∷ places ∷ numbers-of d m
-reading-numbers (Refused r) = []
-
--- a reading whose answer without lent space is a, as the reader's contract has it, and its numbers at the start of the answer
-pub record ReadTo (a : Answer Message) (n : ℕ) (frame dat dat′ es es′ answer answer′ : List ℕ) : Type 0 where
-  pub reading : Reading
-  pub met : ReadMet reading a frame dat dat′ es es′
-  pub number-is : n ≡ reading-number reading
-  pub answer-is : answer′ ≡ front (reading-numbers reading) answer
-
--- a reading for a kind
-abbrev pub ReadFor : Kind → ℕ → List ℕ → List ℕ → List ℕ → List ℕ → List ℕ → List ℕ → List ℕ → Type 0
-ReadFor k n frame dat dat′ es es′ answer answer′ = ReadTo (readOf k frame) n frame dat dat′ es es′ answer answer′
 
 -- a refusal of the boundary's own: all that was lent keeps its contents
 pub record Kept (refusal n : ℕ) (dat dat′ es es′ answer answer′ : List ℕ) : Type 0 where

@@ -1,5 +1,4 @@
 // What programs outside link: each function takes numbers and slices, and answers the number of a refusal, 0 where nothing is refused.
-mod frames;
 mod identity;
 mod kinds;
 mod walking;
@@ -69,7 +68,7 @@ pub extern "C" fn pasoreum_read(
         Named::Kind(k) => if answer.len() < 20 {
             66
         } else {
-            frames::read_for(frame, k, data, entries, answer)
+            read_numbers::read_for(frame, k, data, entries, answer)
         },
         Named::Neither => 65,
     }

@@ -1,0 +1,35 @@
+-- `read_numbers::put_plain` meets its contract: a sample header, or none.
+-- Assumes nothing.
+use mathlib.Core.Path.{sym, subst}
+use denote.Ref.{now}
+use Rattle.messages.specs.declared.head.Head.{Head}
+use Rattle.reader.specs.declared.opening.Opening.the-variants as opening
+use Rattle.reader.specs.Opening.{opens-as}
+use Rattle.reader.specs.Body.{inner}
+use Rattle.read_numbers.specs.Plain.{ReadPlain}
+use borrow.Author.Needs.{needs}
+use Rattle.read_numbers.proofs.put_plain.Statement.{statement}
+use Rattle.read_numbers.proofs.put_plain.Tie as tie
+
+enum-told : tie.Need-enum-told
+enum-told c = search needs
+
+put-header-requires : tie.Need-put-header-requires
+put-header-requires c κs = search needs
+
+same-length : tie.Need-same-length
+same-length c = search needs
+
+returns : tie.Need-returns
+returns c = let p = c .before .before in
+    let s = p .before .before .before .before .before .before in
+    let f = now (s .args .frame) in
+    subst
+    (λ (h : Head). ReadPlain (p .put-header .result) (opens-as (opening.Fields h (s .args .start) (s .args .end) (s .args .sum)) (inner f)) f (now (s .args .answer)) (p .put-header .last .1 .1 .1 .1 .0))
+    (sym (p .before .before .enum-told .given .1)) (p .put-header .ensures)
+
+returns-2 : tie.Need-returns-2
+returns-2 c = search needs
+
+pub put-plain-spec : {M : Type 1} → statement M
+put-plain-spec = tie.close (tie.spec enum-told put-header-requires same-length returns returns-2)
