@@ -4,18 +4,18 @@ use mathlib.Core.Path.{_≡_, refl, sym, ap, _∙_}
 use mathlib.Core.Bool.{Bool, true, false}
 use mathlib.Core.List.{List, [], _∷_}
 use mathlib.Core.Option.{Option, none, some}
-use Prim.Native.Nat.{ℕ, zero, suc, _+_, _-_, _^_, _≤_, _<_}
+use Prim.Native.Nat.{ℕ, zero, suc, _+_, _≤_, _<_}
 use native.Mathlib.Omega.{arith}
 use native.Mathlib.Numerals.{add-one}
 use lib.Dec.{ltb, leb}
-use lib.ListN.{length, take, drop, getD, replicate, length-take, drop-of-length-le}
+use lib.ListN.{length, take, drop, getD, length-take, drop-of-length-le}
 use lib.Seq.{drop-cons, getD-take}
 use borrow.Author.Tests.{ltb-true, ltb-false, leb-true, leb-false, lt-ltb, le-ltb, le-leb, lt-leb, ne-eqb}
 use Rattle.util.specs.Pick.{pick}
 use Rattle.util.specs.Options.{map-option}
 use Rattle.numbers.specs.Types.{NumberType, DeviceID, UniversalNonRealTimeMsg, Made}
 use Rattle.numbers.specs.declared.Made.the-variants.{Message, Malformed}
-use Rattle.numbers.specs.declared.fit.NumberType.the-variants.{U8, U16, Flag, Device, ReferenceType}
+use Rattle.numbers.specs.declared.fit.NumberType.the-variants.{U8, Flag, Device, ReferenceType}
 use Rattle.numbers.specs.Values.{Value, value, or-else}
 use Rattle.numbers.specs.Rows.{Fun, Row}
 use Rattle.numbers.specs.Table.{given, read, read-first, or-other, rows-of}
@@ -134,52 +134,3 @@ module _ (types : List NumberType) (count : ℕ) (h : count ≤ length types) (v
 
 pub turn-done : (types : List NumberType) (count : ℕ) (v : List ℕ) → leb (length v) (count + 2) ≡ fits (drop count (take count types)) v (count + 2)
 turn-done types count v = rw (drop-of-length-le (take count types) {i = count} (simp length-take (omega arith)))
-
--- ---- the loop over numbers of one type
-
-same-type : (n : ℕ) (t : NumberType) → 0 < n → replicate n t ≡ t ∷ replicate (n - 1) t
-same-type zero t h = absurd (omega arith)
-same-type (suc n) t h = let e : suc n - 1 ≡ n = omega arith in rw e
-
-module _ (v : List ℕ) (t : NumberType) (n i : ℕ) (h : 0 < n) where
-  pub same-short : length v ≤ i → false ≡ fits (replicate n t) v i
-  same-short s = rw (same-type n t h, le-ltb _ _ s)
-
-  pub same-misfit : fit t (getD v i 0) ≡ false → i < length v → false ≡ fits (replicate n t) v i
-  same-misfit e s = rw (same-type n t h, lt-ltb _ _ s, e)
-
-  pub same-fit : (j : ℕ) → j ≡ suc i → fit t (getD v i 0) ≡ true → i < length v → fits (replicate (n - 1) t) v j ≡ fits (replicate n t) v i
-  same-fit j q e s = rw (q, same-type n t h, lt-ltb _ _ s, e)
-
--- a number that fits, or does not, and then others
-pub next-fits : (v : List ℕ) (t : NumberType) (ts : List NumberType) (i : ℕ) → i < length v → fit t (getD v i 0) ≡ true → fits ts v (suc i) ≡ fits (t ∷ ts) v i
-next-fits v t ts i s e = rw (lt-ltb _ _ s, e)
-
-pub next-misfits : (v : List ℕ) (t : NumberType) (ts : List NumberType) (i : ℕ) → i < length v → fit t (getD v i 0) ≡ false → false ≡ fits (t ∷ ts) v i
-next-misfits v t ts i s e = rw (lt-ltb _ _ s, e)
-
-both-false : (a b : Bool) → false ≡ pick a (pick b false false) false
-both-false true true = refl
-both-false true false = refl
-both-false false b = refl
-
--- two numbers are wanted from i on, and there are not as many
-pub short-two : (v : List ℕ) (t u : NumberType) (ts : List NumberType) (i : ℕ) → length v ≤ suc i → false ≡ fits (t ∷ u ∷ ts) v i
-short-two v t u ts i h = rw (le-ltb (suc i) (length v) h) (both-false (ltb i (length v)) (fit t (getD v i 0)))
-
-pub short-one : (v : List ℕ) (t : NumberType) (ts : List NumberType) (i : ℕ) → length v ≤ i → false ≡ fits (t ∷ ts) v i
-short-one v t ts i h = rw (le-ltb i (length v) h)
-
--- a number of a type of so many values
-module _ (x : ℕ) where
-  pub fit-8 : x ≤ 255 → fit U8 x ≡ true
-  fit-8 h = rw (lt-ltb x (2 ^ 8) (omega arith))
-
-  pub misfit-8 : 255 < x → fit U8 x ≡ false
-  misfit-8 h = rw (le-ltb x (2 ^ 8) (omega arith))
-
-  pub fit-16 : x ≤ 65535 → fit U16 x ≡ true
-  fit-16 h = rw (lt-ltb x (2 ^ 16) (omega arith))
-
-  pub misfit-16 : 65535 < x → fit U16 x ≡ false
-  misfit-16 h = rw (le-ltb x (2 ^ 16) (omega arith))

@@ -4,7 +4,7 @@ ghost use mathlib.Core.Bool.{true};
 ghost use mathlib.Core.List.{_∷_, []};
 ghost use Prim.Native.Nat.{_≤_};
 ghost use lib.Dec.{eqb, ltb};
-ghost use lib.ListN.{take, replicate};
+ghost use lib.ListN.{take};
 ghost use Rattle.util.specs.Pick.{pick};
 ghost use Rattle.numbers.specs.Values.{signed};
 ghost use Rattle.numbers.specs.Fits.{fit, fits, is-some};
@@ -137,25 +137,6 @@ pub fn fits_row(v: &[u64], types: [NumberType; 14], count: usize) -> bool
         i += 1;
     }
     v.len() <= count + 2
-}
-
-// Whether the numbers from a place on are twelve from -2^15 to below 2^15.
-pub fn fits_scale_2(v: &[u64], from: usize) -> bool
-    requires { ⌜ from ≤ 4 ⌝ }
-    ensures { λ r. ⌜ r ≡ fits (replicate 12 NumberType.I16) (now (v .entry)) from ⌝ }
-{
-    let mut n = 12;
-    while 0 < n {
-        let i = from + (12 - n);
-        if v.len() <= i {
-            return false;
-        }
-        if !is_i16(v[i]) {
-            return false;
-        }
-        n -= 1;
-    }
-    v.len() <= from + 12
 }
 
 // Whether there are no numbers from the third on.

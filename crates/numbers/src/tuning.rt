@@ -3,7 +3,6 @@ use crate::fit::NumberType;
 use crate::fit::fits_1;
 use crate::fit::fits_2;
 use crate::fit::fits_row;
-use crate::fit::fits_scale_2;
 use crate::values::bank_at;
 use crate::values::i8_at;
 use crate::values::i16_at;
@@ -176,16 +175,9 @@ fn scale_dump_2(v: &[u64]) -> UniversalNonRealTimeMsg
 fn scale_dump_2_fits(v: &[u64]) -> bool
     ensures { λ r. ⌜ r ≡ row-fits scale-dump-2 (now (v .entry)) ⌝ }
 {
-    if v.len() < 4 {
-        return false;
-    }
-    if 255 < v[2] {
-        return false;
-    }
-    if 255 < v[3] {
-        return false;
-    }
-    fits_scale_2(v, 4)
+    let b = NumberType::U8;
+    let t = NumberType::I16;
+    fits_row(v, [b, b, t, t, t, t, t, t, t, t, t, t, t, t], 14)
 }
 
 // A scale tuning of two bytes.
@@ -204,13 +196,9 @@ fn scale_tuning_2(v: &[u64]) -> UniversalNonRealTimeMsg
 fn scale_tuning_2_fits(v: &[u64]) -> bool
     ensures { λ r. ⌜ r ≡ row-fits scale-tuning-2 (now (v .entry)) ⌝ }
 {
-    if v.len() < 3 {
-        return false;
-    }
-    if 65535 < v[2] {
-        return false;
-    }
-    fits_scale_2(v, 3)
+    let b = NumberType::U16;
+    let t = NumberType::I16;
+    fits_row(v, [b, t, t, t, t, t, t, t, t, t, t, t, t, t], 13)
 }
 
 // Whether the numbers are those of a head code.
