@@ -11,7 +11,7 @@ use opening::Opening;
 use util::refusal::Refusal;
 ghost use mathlib.Core.Path.{_≡_};
 ghost use mathlib.Core.Option.{some};
-ghost use lib.ListN.{take, drop};
+ghost use lib.ListN.{take, drop, getD};
 ghost use Rattle.messages.specs.Messages.{readOf, inside};
 ghost use Rattle.messages.specs.Walk.{is-frame};
 ghost use Rattle.reader.specs.Opening.{Opens};
@@ -58,9 +58,9 @@ pub fn examine(frame: &[u8], kind: Kind) -> Body
     }
 }
 
-// Whether a stretch of the right shape is a frame for a kind of sound file.
+// Whether a stretch of the right shape, 7E after its F0, is a frame for a kind of sound file.
 pub fn is_frame_shaped(stretch: &[u8], kind: Kind) -> bool
-    requires { ⌜ inside (now stretch) ≡ some (inner (now stretch)) ⌝ }
+    requires { ⌜ (inside (now stretch) ≡ some (inner (now stretch))) × (getD (now stretch) 1 0 ≡ 0x7E) ⌝ }
     ensures { λ r. ⌜ r ≡ is-frame kind (now (stretch .entry)) ⌝ }
 {
     let e = stretch.len() - 1;

@@ -26,9 +26,10 @@ not-f0 b = not (eqb b 0xF0)
 abbrev pub from : Kind → List ℕ → ℕ → List Stretch
 from k s a = stretches (is-frame k) a (drop a s)
 
--- a stretch from the F0 at a place to the F7 at e, with bytes below 128 between
+-- a stretch from the F0 at a place to the F7 at e, with bytes below 128 between, the first 7E
 pub record Closed (s : List ℕ) (start e : ℕ) : Type 0 where
   pub first : getD s start 0 ≡ 0xF0
+  pub second : getD s (start + 1) 0 ≡ 0x7E
   pub ends : e ≡ (start + 1) + run is-low (drop (start + 1) s)
   pub fits : e < length s
   pub last : getD s e 0 ≡ 0xF7

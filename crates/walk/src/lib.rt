@@ -14,8 +14,8 @@ pub enum Walked {
     Refused(Refusal, usize),
 }
 
-// The first place from `from` on whose byte is not below 128, or the end.
-fn high_from(s: &[u8], from: usize) -> usize
+// The first place from `from` on whose byte is not below 128, or the end: the last bytes, one a turn.
+fn last_high(s: &[u8], from: usize) -> usize
     requires { ⌜ from ≤ length (now s) ⌝ }
     ensures { λ r. ⌜ r ≡ from + run is-low (drop from (now (s .entry))) ⌝ }
 {
@@ -29,8 +29,32 @@ fn high_from(s: &[u8], from: usize) -> usize
     i
 }
 
-// The first place from `from` on whose byte is F0, or the end.
-fn f0_from(s: &[u8], from: usize) -> usize
+// The same, four bytes a turn.
+fn high_from(s: &[u8], from: usize) -> usize
+    requires { ⌜ from ≤ length (now s) ⌝ }
+    ensures { λ r. ⌜ r ≡ from + run is-low (drop from (now (s .entry))) ⌝ }
+{
+    let mut i = from;
+    while i + 4 <= s.len() {
+        if 127 < s[i] {
+            return i;
+        }
+        if 127 < s[i + 1] {
+            return i + 1;
+        }
+        if 127 < s[i + 2] {
+            return i + 2;
+        }
+        if 127 < s[i + 3] {
+            return i + 3;
+        }
+        i += 4;
+    }
+    last_high(s, i)
+}
+
+// The first place from `from` on whose byte is F0, or the end: the last bytes, one a turn.
+fn last_f0(s: &[u8], from: usize) -> usize
     requires { ⌜ from ≤ length (now s) ⌝ }
     ensures { λ r. ⌜ r ≡ from + run not-f0 (drop from (now (s .entry))) ⌝ }
 {
@@ -42,6 +66,30 @@ fn f0_from(s: &[u8], from: usize) -> usize
         i += 1;
     }
     i
+}
+
+// The same, four bytes a turn.
+fn f0_from(s: &[u8], from: usize) -> usize
+    requires { ⌜ from ≤ length (now s) ⌝ }
+    ensures { λ r. ⌜ r ≡ from + run not-f0 (drop from (now (s .entry))) ⌝ }
+{
+    let mut i = from;
+    while i + 4 <= s.len() {
+        if s[i] == 0xF0 {
+            return i;
+        }
+        if s[i + 1] == 0xF0 {
+            return i + 1;
+        }
+        if s[i + 2] == 0xF0 {
+            return i + 2;
+        }
+        if s[i + 3] == 0xF0 {
+            return i + 3;
+        }
+        i += 4;
+    }
+    last_f0(s, i)
 }
 
 // Puts a pair at place n of an index that has room for it.
@@ -118,11 +166,11 @@ fn read_inside(stream: &&[u8], start: usize) -> usize
     }
     let e = next_high(stream, next + 1);
     if e < stream.len() {
-        if byte_at(stream, e) == 0xF0 {
-            return read_inside(stream, e);
-        }
         if byte_at(stream, e) == 0xF7 {
             return start * 65536 + e;
+        }
+        if byte_at(stream, e) == 0xF0 {
+            return read_inside(stream, e);
         }
         read_outside(stream, e + 1)
     } else {
@@ -135,7 +183,7 @@ fn frame_at(s: &[u8], kind: Kind, start: usize, e: usize) -> bool
     requires { ⌜ Closed (now s) start e ⌝ }
     ensures { λ r. ⌜ r ≡ is-frame kind (take (e + 1 - start) (drop start (now (s .entry)))) ⌝ }
 {
-    if e < start + 5 {
+    if e + 1 - start < 6 {
         return false;
     }
     reader::is_frame_shaped(&s[start..e + 1], kind)

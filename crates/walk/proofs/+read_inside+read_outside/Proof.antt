@@ -136,33 +136,40 @@ stretch-ends t a =
     let b = a .before .before .before .byte-at in
     high-on (p .stream .now .now) (p .start + 1) (b .result) (a .next-high .result) (a .before .before .before .before .if1 .left) (b .ensures) (omega (arith, a .before .if3 .left)) (a .next-high .ensures)
 
-read-inside-read-inside-requires-2 : (t : ℕ) → read-inside-lts.Need-read-inside-requires-2 (read-inside-calls t) (read-inside-at t) read-inside.Post
-read-inside-read-inside-requires-2 t c κs =
-    let p = c .before .before .before .before .before .before .before .before in
-    (omega arith, (c .before .before .if4 .taken, p .pre .1 .1, sym (c .before .byte-at2 .ensures) ∙ c .if5 .taken))
-
 read-inside-returns-4 : (t : ℕ) → read-inside-lts.Need-returns-4 (read-inside-calls t) (read-inside-at t) read-inside.Post
 read-inside-returns-4 t c =
-    let a = c .before .before .before .before in
+    let a = c .before .before .before in
     let p = a .before .before .before .before .before in
     let s = p .args .stream .now .now in
     let i = p .args .start in
     let e = a .next-high .result in
     let q = stretch-ends t a in
-    further s i e _ _ (omega (arith, q)) (other s i e (p .pre .1 .0) q (λ z. omega (arith, c .before .before .byte-at2 .ensures, c .before .if5 .taken))) (c .read-inside2 .ensures)
+    found s i e (p .pre .1 .1) (record
+        { first = p .pre .1 .2
+        ; second = sym (a .before .before .before .byte-at .ensures) ∙ a .before .if3 .left
+        ; ends = q
+        ; fits = c .before .before .if4 .taken
+        ; last = sym (c .before .byte-at2 .ensures) ∙ c .if5 .taken
+        })
 
 read-inside-byte-at-requires-3 : (t : ℕ) → read-inside-lts.Need-byte-at-requires-3 (read-inside-calls t) (read-inside-at t) read-inside.Post
 read-inside-byte-at-requires-3 t c κs = c .before .before .if4 .taken
 
+read-inside-read-inside-requires-2 : (t : ℕ) → read-inside-lts.Need-read-inside-requires-2 (read-inside-calls t) (read-inside-at t) read-inside.Post
+read-inside-read-inside-requires-2 t c κs =
+    let a = c .before .before .before .before .before in
+    let p = a .before .before .before .before .before in
+    (omega arith, (c .before .before .before .before .if4 .taken, p .pre .1 .1, sym (c .before .byte-at3 .ensures) ∙ c .if6 .taken))
+
 read-inside-returns-5 : (t : ℕ) → read-inside-lts.Need-returns-5 (read-inside-calls t) (read-inside-at t) read-inside.Post
 read-inside-returns-5 t c =
-    let a = c .before .before .before .before .before in
+    let a = c .before .before .before .before .before .before in
     let p = a .before .before .before .before .before in
     let s = p .args .stream .now .now in
     let i = p .args .start in
     let e = a .next-high .result in
     let q = stretch-ends t a in
-    found s i e (p .pre .1 .1) (record { first = p .pre .1 .2; ends = q; fits = c .before .before .before .before .if4 .taken; last = sym (c .before .byte-at3 .ensures) ∙ c .if6 .taken })
+    further s i e _ _ (omega (arith, q)) (other s i e (p .pre .1 .0) q (λ z. omega (arith, c .before .before .byte-at3 .ensures, c .before .if6 .taken))) (c .read-inside2 .ensures)
 
 read-inside-add-read-outside-2 : (t : ℕ) → read-inside-lts.Need-add-read-outside-2 (read-inside-calls t) (read-inside-at t) read-inside.Post
 read-inside-add-read-outside-2 t c = omega arith
@@ -183,8 +190,8 @@ read-inside-returns-6 t c =
     let i = p .args .start in
     let e = a .next-high .result in
     let q = stretch-ends t a in
-    let f = other s i e (p .pre .1 .0) q (λ z. c .before .if6 .left (c .before .before .byte-at3 .ensures ∙ z)) in
-    further s i (e + 1) _ _ (omega (arith, q)) (past s i e f (c .before .before .before .before .before .if4 .taken) (λ z. c .before .before .before .if5 .left (c .before .before .before .before .byte-at2 .ensures ∙ z))) (c .read-outside2 .ensures)
+    let f = other s i e (p .pre .1 .0) q (λ z. c .before .before .before .if5 .left (c .before .before .before .before .byte-at2 .ensures ∙ z)) in
+    further s i (e + 1) _ _ (omega (arith, q)) (past s i e f (c .before .before .before .before .before .if4 .taken) (λ z. c .before .if6 .left (c .before .before .byte-at3 .ensures ∙ z))) (c .read-outside2 .ensures)
 
 read-inside-returns-7 : (t : ℕ) → read-inside-lts.Need-returns-7 (read-inside-calls t) (read-inside-at t) read-inside.Post
 read-inside-returns-7 t c =
@@ -252,11 +259,11 @@ pub +read-inside+read-outside-spec : {M : Type 1} → statement M
     (read-inside-add-next-high t)
     (read-inside-next-high-requires t)
     (read-inside-byte-at-requires-2 t)
-    (read-inside-read-inside-requires-2 t)
-    (read-inside-returns-4 t)
-    (read-inside-byte-at-requires-3 t)
     (read-inside-mul-result-2 t)
     (read-inside-add-result t)
+    (read-inside-returns-4 t)
+    (read-inside-byte-at-requires-3 t)
+    (read-inside-read-inside-requires-2 t)
     (read-inside-returns-5 t)
     (read-inside-add-read-outside-2 t)
     (read-inside-read-outside-requires-2 t)
