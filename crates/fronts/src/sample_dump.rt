@@ -47,7 +47,7 @@ fn put_held_header(out: &mut [u8], i: u64, n: u64, h: u64, p: u64, l: u64, s: u6
 }
 
 // Writes a header; f is the format held to its range and t the byte of the loop type.
-fn put_header(
+pub fn put_header(
     out: &mut [u8],
     d: u64,
     sample: u16,
@@ -75,7 +75,7 @@ fn put_header(
 }
 
 // Writes a packet of count c.
-fn put_packet(out: &mut [u8], d: u64, c: u8)
+pub fn put_packet(out: &mut [u8], d: u64, c: u8)
     requires { ⌜ 4 ≤ length (now out) ⌝ }
     ensures { λ _. ⌜ now (out .exit) ≡ front (front-sample d (SampleDumpMsg.Packet c)) (now (out .entry)) ⌝ }
 {

@@ -85,7 +85,7 @@ fn put_scale_dump_1(out: &mut [u8], text: &[u8], s: Scale1Byte)
 }
 
 // Writes a name and a scale of two bytes each.
-fn put_scale_dump_2(out: &mut [u8], text: &[u8], s: Scale2Byte)
+pub fn put_scale_dump_2(out: &mut [u8], text: &[u8], s: Scale2Byte)
     requires { ⌜ 40 ≤ length (now out) ⌝ }
     ensures { λ _. ⌜ now (out .exit) ≡ front (written name-of-16 (now (text .entry)) ++ written scale-2 s) (now (out .entry)) ⌝ }
 {
