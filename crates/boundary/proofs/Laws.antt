@@ -1,7 +1,7 @@
 -- What the answers of the entry points below are in numbers. Assumes nothing.
 use mathlib.Core.Path.{_≡_, refl, sym, ap, subst, _∙_}
 use mathlib.Core.Bool.{Bool}
-use mathlib.Core.List.{List, [], _∷_, _++_}
+use mathlib.Core.List.{List, _∷_, _++_}
 use Prim.Native.Nat.{ℕ, _≤_}
 use native.Mathlib.Omega.{arith}
 use lib.Dec.{leb}
@@ -9,15 +9,6 @@ use lib.ListN.{length, take, drop, replicate}
 use borrow.Author.Tests.{le-leb, le-ltb}
 use Rattle.util.specs.Pick.{pick}
 use Rattle.util.specs.Splice.{front}
-use Rattle.messages.specs.declared.«system_exclusive».DeviceID.{DeviceID}
-use Rattle.messages.specs.declared.«system_exclusive».UniversalNonRealTimeMsg.{UniversalNonRealTimeMsg}
-use Rattle.messages.specs.Messages.{writeOf}
-use Rattle.messages.specs.MessageOf.{messageOf}
-use Rattle.numbers.specs.declared.Made.{Made}
-use Rattle.numbers.specs.declared.Made.the-variants.{Message, Malformed}
-use Rattle.numbers.specs.Table.{message-of}
-use Rattle.writer.specs.declared.Written.{Written}
-use Rattle.writer.specs.Write.{written-at, written-number, written-value, output-after}
 use Rattle.messages.specs.declared.«system_exclusive».ManufacturerID.{ManufacturerID}
 use Rattle.messages.specs.declared.«system_exclusive».ManufacturerID.the-variants.{OneByte, Extended}
 use Rattle.messages.specs.declared.«system_exclusive».IdentityReply.{IdentityReply}
@@ -31,27 +22,6 @@ use Rattle.to_numbers.specs.Numbers.{field-numbers, maker, after-maker}
 use Rattle.boundary.specs.declared.kinds.Named.{Named}
 use Rattle.boundary.specs.Walk.{walk-number, walk-value, walk-index}
 use Rattle.boundary.specs.Read.{ReadAs, Kept}
-use Rattle.boundary.specs.Write.{made-number, made-value, made-output, write-number, write-value, write-output}
-
-module _ (v text entries out : List ℕ) (place : ℕ) where
-  -- a message was written, or refused
-  pub wrote : (d : DeviceID) (m : UniversalNonRealTimeMsg) → message-of v ≡ Message d m → (a b : Written) (out′ : List ℕ) → a ≡ b
-      → a ≡ written-at (writeOf (messageOf d m text entries)) (length out) place → out′ ≡ output-after (writeOf (messageOf d m text entries)) out place
-      → (written-number b ≡ write-number v text entries out place) × ((written-value b ≡ write-value v text entries out place) × (out′ ≡ write-output v text entries out place))
-  wrote d m e a b out′ q p o = (
-    ap written-number (sym q ∙ p) ∙ ap (λ (x : Made). made-number x text entries out place) (sym e),
-    (
-      ap written-value (sym q ∙ p) ∙ ap (λ (x : Made). made-value x text entries out place) (sym e),
-      o ∙ ap (λ (x : Made). made-output x text entries out place) (sym e),
-    ),
-  )
-
-  -- the numbers are no message
-  pub unwritten : message-of v ≡ Malformed → (64 ≡ write-number v text entries out place) × ((0 ≡ write-value v text entries out place) × (out ≡ write-output v text entries out place))
-  unwritten e = (
-    ap (λ (x : Made). made-number x text entries out place) (sym e),
-    (ap (λ (x : Made). made-value x text entries out place) (sym e), ap (λ (x : Made). made-output x text entries out place) (sym e)),
-  )
 
 -- the walk for what was named
 pub walked-as : {x y : Named} → x ≡ y → (s ix ix′ : List ℕ) (n v : ℕ) → n ≡ walk-number y s ix → v ≡ walk-value y s ix → ix′ ≡ walk-index y s ix

@@ -29,7 +29,7 @@ use Rattle.to_numbers.proofs.Promises.{numbers-back}
 use Rattle.to_numbers.proofs.Settled.{settled-told}
 use Rattle.writer.specs.Write.{written-at, written-number, written-value, output-after}
 use Rattle.read_numbers.specs.Read.{ReadFor, reading-number, reading-numbers}
-use Rattle.boundary.specs.Write.{made-number, made-value, made-output}
+use Rattle.write_numbers.specs.Write.{made-number, made-value, made-output}
 use Rattle.boundary.specs.Promises.{numbers-in, part-in, places-in, Says, text-said, message-said, NumbersRead, WrittenAgain}
 
 -- a refusal's number is not 0

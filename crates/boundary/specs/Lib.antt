@@ -1,5 +1,4 @@
 pub mod Kinds
-pub mod Write
 pub mod Read
 pub mod Walk
 pub mod Identity

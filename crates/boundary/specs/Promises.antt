@@ -14,7 +14,7 @@ use Rattle.numbers.specs.Table.{message-of}
 use Rattle.reading.specs.Found.{text-in}
 use Rattle.writer.specs.Write.{written-at, written-number, written-value, output-after}
 use Rattle.read_numbers.specs.Read.{ReadFor}
-use Rattle.boundary.specs.Write.{write-number, write-value, write-output}
+use Rattle.write_numbers.specs.Write.{write-number, write-value, write-output}
 
 -- the message's numbers in an answer
 abbrev pub numbers-in : List ℕ → List ℕ

@@ -6,9 +6,7 @@ mod walking;
 use kinds::Named;
 use messages::system_exclusive::IdentityReading;
 use messages::system_exclusive::UniversalNonRealTimeMsg;
-use numbers::Made;
 use rates::SplitAnswer;
-use writer::Written;
 ghost use mathlib.Core.Path.{_≡_};
 ghost use lib.Dec.{ltb};
 ghost use lib.ListN.{length};
@@ -16,7 +14,7 @@ ghost use Rattle.rates.specs.Rate.{numbers-of, join-of, split-of};
 ghost use Rattle.rates.specs.Cents.{cents-of};
 ghost use Rattle.util.specs.Channels.{how-many, lowest};
 ghost use Rattle.boundary.specs.Kinds.{kind-of};
-ghost use Rattle.boundary.specs.Write.{write-number, write-value, write-output};
+ghost use Rattle.write_numbers.specs.Write.{write-number, write-value, write-output};
 ghost use Rattle.boundary.specs.Read.{ReadAs};
 ghost use Rattle.boundary.specs.Walk.{walk-number, walk-value, walk-index};
 ghost use Rattle.boundary.specs.Identity.{identity-number, identity-answer};
@@ -35,22 +33,7 @@ pub extern "C" fn pasoreum_write(
     ensures value { λ _. ⌜ now (value .exit) ≡ write-value (now (numbers .entry)) (now (text .entry)) (now (entries .entry)) (now (out .entry)) place ⌝ }
     ensures output { λ _. ⌜ now (out .exit) ≡ write-output (now (numbers .entry)) (now (text .entry)) (now (entries .entry)) (now (out .entry)) place ⌝ }
 {
-    match numbers::from_numbers(numbers) {
-        Made::Message { device, m } => match writer::write(device, m, text, entries, out, place) {
-            Written::Frame(n) => {
-                *value = n as u64;
-                0
-            }
-            Written::Refused(r) => {
-                *value = 0;
-                r.number() as u32
-            }
-        },
-        Made::Malformed => {
-            *value = 0;
-            64
-        }
-    }
+    write_numbers::write(numbers, text, entries, out, place, value)
 }
 
 // Reads a frame for a kind of sound file, 0 bank, 1 WAV: its file data and entries into lent places, its numbers into the answer.

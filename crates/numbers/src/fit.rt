@@ -53,7 +53,7 @@ fn is_i8(x: u64) -> bool
 }
 
 // Whether a number is from -2^15 to below 2^15, in two's complement of 64 bits.
-fn is_i16(x: u64) -> bool
+pub fn is_i16(x: u64) -> bool
     ensures { λ r. ⌜ r ≡ is-some (signed 32768 x) ⌝ }
 {
     if x < 32768 {
@@ -63,7 +63,7 @@ fn is_i16(x: u64) -> bool
 }
 
 // Whether a number is 0, 1 or another one.
-fn is_loop_type(x: u64) -> bool
+pub fn is_loop_type(x: u64) -> bool
     ensures { λ r. ⌜ r ≡ fit NumberType.LoopType x ⌝ }
 {
     match x {

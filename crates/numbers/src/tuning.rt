@@ -99,7 +99,7 @@ fn scale_1(v: &[u64], i: usize) -> Scale1Byte
 }
 
 // Twelve values of two bytes from a place on.
-fn scale_2(v: &[u64], i: usize) -> Scale2Byte
+pub fn scale_2(v: &[u64], i: usize) -> Scale2Byte
     requires { ⌜ i ≤ 4 ⌝ }
     ensures { λ r. ⌜ r ≡ scale-2-at (now (v .entry)) i ⌝ }
 {

@@ -1,11 +1,11 @@
--- `boundary::pasoreum_write` meets its contract: the writer's answer in numbers.
+-- `write_numbers::write_made` meets its contract: the writer's answer in numbers.
 -- Assumes nothing.
 use mathlib.Core.Path.{sym, _∙_}
 use denote.Ref.{now}
-use Rattle.boundary.proofs.Laws.{wrote, unwritten}
+use Rattle.write_numbers.proofs.Laws.{wrote, unwritten}
 use borrow.Author.Needs.{needs}
-use Rattle.boundary.proofs.pasoreum_write.Statement.{statement}
-use Rattle.boundary.proofs.pasoreum_write.Tie as tie
+use Rattle.write_numbers.proofs.write_made.Statement.{statement}
+use Rattle.write_numbers.proofs.write_made.Tie as tie
 
 from-numbers-requires : tie.Need-from-numbers-requires
 from-numbers-requires c κs = search needs
@@ -56,8 +56,8 @@ returns-3 : tie.Need-returns-3
 returns-3 c = let s = c .before .before in
     unwritten _ _ _ _ _ (sym (s .from-numbers .ensures) ∙ c .enum-told .given .1)
 
-pub pasoreum-write-spec : {M : Type 1} → statement M
-pasoreum-write-spec =
+pub write-made-spec : {M : Type 1} → statement M
+write-made-spec =
     tie.close
     (tie.spec
     from-numbers-requires

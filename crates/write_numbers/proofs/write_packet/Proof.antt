@@ -1,0 +1,58 @@
+-- `write_numbers::write_packet` meets its contract: the numbers are no packet, or the packet is written.
+-- Assumes nothing.
+use mathlib.Core.Path.{refl, sym, _∙_}
+use denote.Ref.{now}
+use borrow.Author.Tests.{not-true, not-false}
+use borrow.Author.Needs.{needs}
+use Rattle.write_numbers.proofs.Laws.{made-by, made-not, wrote, unwritten}
+use Rattle.write_numbers.proofs.write_packet.Statement.{statement}
+use Rattle.write_numbers.proofs.write_packet.Tie as tie
+
+is-one-byte-requires : tie.Need-is-one-byte-requires
+is-one-byte-requires c κs = rw (c .before .before .before .before .pre)
+
+device-at-requires : tie.Need-device-at-requires
+device-at-requires c κs = search needs
+
+u8-at-requires : tie.Need-u8-at-requires
+u8-at-requires c κs = search needs
+
+write-packet-requires : tie.Need-write-packet-requires
+write-packet-requires c κs = search needs
+
+told-requires : tie.Need-told-requires
+told-requires c κs = search needs
+
+same-length : tie.Need-same-length
+same-length c = search needs
+
+returns : tie.Need-returns
+returns c =
+    let s = c .before .before .before .before .before .before in
+    let v = now (s .args .numbers) in
+    unwritten v (now (s .args .text)) (now (s .args .entries)) (now (s .args .out)) (s .args .place)
+    (made-not v (sym (c .before .is-one-byte .ensures) ∙ not-true _ (c .if1 .taken)))
+
+returns-2 : tie.Need-returns-2
+returns-2 c =
+    let w = c .before .before .before .before in
+    let f = c .before .before .before .before .before .before .before .before in
+    let s = c .before .before .before .before .before .before .before .before .before .before .before .before .before .before in
+    let v = now (s .args .numbers) in
+    let e = sym (f .before .is-one-byte .ensures) ∙ not-false _ (f .if1 .left) in
+    let t = wrote v (now (s .args .text)) (now (s .args .entries)) (now (s .args .out)) (s .args .place) _ _ (made-by v 0x0200 (s .pre) e)
+    _ _ _ refl (rw (w .before .before .before .device-at .ensures, w .before .before .u8-at .ensures) at (w .write-packet .ensures .0)) (rw (w .before .before .before .device-at .ensures, w .before .before .u8-at .ensures) at (w .write-packet .ensures .1)) in
+    (c .told .ensures .0 ∙ t .0, (c .told .ensures .1 ∙ t .1 .0, t .1 .1))
+
+pub write-packet-spec : {M : Type 1} → statement M
+write-packet-spec =
+    tie.close
+    (tie.spec
+    is-one-byte-requires
+    returns
+    device-at-requires
+    u8-at-requires
+    write-packet-requires
+    told-requires
+    same-length
+    returns-2)

@@ -1,0 +1,66 @@
+-- `write_numbers::write_scale_dump_2` meets its contract: the numbers are no scale dump, or the scale dump is written.
+-- Assumes nothing.
+use mathlib.Core.Path.{refl, sym, _∙_}
+use denote.Ref.{now}
+use borrow.Author.Tests.{not-true, not-false}
+use borrow.Author.Needs.{needs}
+use Rattle.write_numbers.proofs.Laws.{made-by, made-not, wrote, unwritten}
+use Rattle.write_numbers.proofs.write_scale_dump_2.Statement.{statement}
+use Rattle.write_numbers.proofs.write_scale_dump_2.Tie as tie
+
+is-scale-dump-2-requires : tie.Need-is-scale-dump-2-requires
+is-scale-dump-2-requires c κs = search needs
+
+scale-2-requires : tie.Need-scale-2-requires
+scale-2-requires c κs = search needs
+
+device-at-requires : tie.Need-device-at-requires
+device-at-requires c κs = search needs
+
+u8-at-requires : tie.Need-u8-at-requires
+u8-at-requires c κs = search needs
+
+u8-at-requires-2 : tie.Need-u8-at-requires-2
+u8-at-requires-2 c κs = search needs
+
+write-scale-dump-2-requires : tie.Need-write-scale-dump-2-requires
+write-scale-dump-2-requires c κs = search needs
+
+told-requires : tie.Need-told-requires
+told-requires c κs = search needs
+
+same-length : tie.Need-same-length
+same-length c = search needs
+
+returns : tie.Need-returns
+returns c =
+    let s = c .before .before .before .before .before .before in
+    let v = now (s .args .numbers) in
+    unwritten v (now (s .args .text)) (now (s .args .entries)) (now (s .args .out)) (s .args .place)
+    (made-not v (sym (c .before .is-scale-dump-2 .ensures) ∙ not-true _ (c .if1 .taken)))
+
+returns-2 : tie.Need-returns-2
+returns-2 c =
+    let w = c .before .before .before .before in
+    let f = c .before .before .before .before .before .before .before .before .before .before in
+    let s = c .before .before .before .before .before .before .before .before .before .before .before .before .before .before .before .before in
+    let v = now (s .args .numbers) in
+    let e = sym (f .before .is-scale-dump-2 .ensures) ∙ not-false _ (f .if1 .left) in
+    let t = wrote v (now (s .args .text)) (now (s .args .entries)) (now (s .args .out)) (s .args .place) _ _ (made-by v 0x0806 (s .pre) e)
+    _ _ _ refl (rw (w .before .before .before .before .device-at .ensures, w .before .before .before .u8-at .ensures, w .before .before .u8-at2 .ensures, w .before .before .before .before .before .scale-2 .ensures) at (w .write-scale-dump-2 .ensures .0)) (rw (w .before .before .before .before .device-at .ensures, w .before .before .before .u8-at .ensures, w .before .before .u8-at2 .ensures, w .before .before .before .before .before .scale-2 .ensures) at (w .write-scale-dump-2 .ensures .1)) in
+    (c .told .ensures .0 ∙ t .0, (c .told .ensures .1 ∙ t .1 .0, t .1 .1))
+
+pub write-scale-dump-2-spec : {M : Type 1} → statement M
+write-scale-dump-2-spec =
+    tie.close
+    (tie.spec
+    is-scale-dump-2-requires
+    returns
+    scale-2-requires
+    device-at-requires
+    u8-at-requires
+    u8-at-requires-2
+    write-scale-dump-2-requires
+    told-requires
+    same-length
+    returns-2)
