@@ -14,31 +14,36 @@ rustc $release --edition 2024 --crate-name timing_write -L "$work/crate" --exter
 gcc -std=gnu11 -O3 -Wall -Wextra -I "$here/include" "$here/bench/read.c" "$lib/libboundary.a" -o "$work/read"
 gcc -std=gnu11 -O2 -Wall -Wextra -I "$here/include" "$here/bench/walk.c" "$lib/libboundary.a" -o "$work/walk"
 
+# middle PROGRAM ROWS FROM TO: of five runs the one whose ratio, in the columns FROM to TO, is the middle one, row by row. A run may fall into a busy moment
+# of the machine, and how well a processor learns the branches of a stream differs from run to run.
+middle() {
+    for run in 1 2 3 4 5; do
+        "$1" > "$work/run.$run" || { cat "$work/run.$run"; exit 1; }
+    done
+    for row in $(seq "$2"); do
+        for run in 1 2 3 4 5; do sed -n "${row}p" "$work/run.$run"; done | sort -k "1.$3,1.$4n" | sed -n 3p
+    done
+}
+
 cat <<'T'
-Buffers are kept and reused; none is cleared before a call. A goal is met where the ratio, in two decimals, is at most the goal.
+Buffers are kept and reused; none is cleared before a call. A goal is met where the ratio, in two decimals, is at most the goal. Of five runs each row is
+of the run with the middle ratio.
 Writing and reading: nanoseconds a call, the least of fifteen rounds taken in turns.
   made    the crate writes a message that was made before
-  making  the crate makes the message of the same numbers, text and entries and writes it, which is what pasoreum_write does
+  making  the crate makes the message of the same numbers, text and entries and writes it, which is what pasoreum_write does; the middle is by it
 
                                     crate     crate              ratio   ratio
 pasoreum_write              bytes    made    making      here     made  making   goal  made, making
 T
-"$work/write"
+middle "$work/write" 8 73 80
 cat <<'T'
 
 pasoreum_read               bytes         C                here   ratio           goal
 T
-"$work/read"
+middle "$work/read" 8 65 72
 cat <<'T'
 
-The walk: nanoseconds a byte of 65,535, the least of eleven; of five runs the one of the middle ratio. Last, the time of 65,535 bytes over that
-of 6,553.
+The walk: nanoseconds a byte of 65,535, the least of eleven. Last, the time of 65,535 bytes over that of 6,553.
 pasoreum_walk              frames         C                here   ratio           goal           length
 T
-# how well a processor learns the branches of the last stream differs from run to run
-for run in 1 2 3 4 5; do
-    "$work/walk" > "$work/run.$run" || { cat "$work/run.$run"; exit 1; }
-done
-for row in 1 2 3 4 5 6 7 8 9 10; do
-    for run in 1 2 3 4 5; do sed -n "${row}p" "$work/run.$run"; done | sort -k 1.65,1.72n | sed -n 3p
-done
+middle "$work/walk" 10 65 72
