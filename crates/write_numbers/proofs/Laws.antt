@@ -12,9 +12,9 @@ use Rattle.util.specs.Pick.{pick}
 use Rattle.messages.proofs.Walk.{bool-cases}
 use Rattle.numbers.specs.declared.fit.NumberType.{NumberType}
 use Rattle.numbers.specs.declared.fit.NumberType.the-variants as type
-use Rattle.numbers.specs.Values.{value}
+use Rattle.numbers.specs.Values.{value, below}
 use Rattle.numbers.specs.Table.{rows-of, message-of}
-use Rattle.numbers.specs.Fits.{fit, fits, misfit, message-if, fits-any, first-message}
+use Rattle.numbers.specs.Fits.{is-some, fit, fits, misfit, message-if, fits-any, first-message}
 use Rattle.numbers.proofs.Laws.{given-none, whole-is}
 use Rattle.messages.specs.declared.«system_exclusive».DeviceID.{DeviceID}
 use Rattle.messages.specs.declared.«system_exclusive».UniversalNonRealTimeMsg.{UniversalNonRealTimeMsg}
@@ -51,6 +51,13 @@ message-is v = ⊎-elim
 
 -- ---- a number that fits a type, or does not
 
+-- a number below a limit, and one that is not
+below-fits : (n x : ℕ) → x < n → is-some (below n x) ≡ true
+below-fits n x h = rw (lt-ltb x n h)
+
+above-misfits : (n x : ℕ) → n ≤ x → is-some (below n x) ≡ false
+above-misfits n x h = rw (le-ltb x n h)
+
 module _ (x : ℕ) where
   pub device-fits : x ≤ 256 → fit type.Device x ≡ true
   device-fits h = ⊎-elim
@@ -62,25 +69,25 @@ module _ (x : ℕ) where
   device-misfits h = rw (ne-eqb x 256 (λ z. omega arith), le-ltb x (2 ^ 8) (omega arith))
 
   pub fits-8 : x ≤ 255 → fit type.U8 x ≡ true
-  fits-8 h = rw (lt-ltb x (2 ^ 8) (omega arith))
+  fits-8 h = below-fits (2 ^ 8) x (omega arith)
 
   pub misfits-8 : 255 < x → fit type.U8 x ≡ false
-  misfits-8 h = rw (le-ltb x (2 ^ 8) (omega arith))
+  misfits-8 h = above-misfits (2 ^ 8) x (omega arith)
 
   pub below-8 : ltb x 256 ≡ pick (fit type.U8 x) true false
   below-8 = ⊎-elim (λ (e : ltb x 256 ≡ true). rw e) (λ (e : ltb x 256 ≡ false). rw e) (bool-cases (ltb x 256))
 
   pub fits-16 : x ≤ 65535 → fit type.U16 x ≡ true
-  fits-16 h = rw (lt-ltb x (2 ^ 16) (omega arith))
+  fits-16 h = below-fits (2 ^ 16) x (omega arith)
 
   pub misfits-16 : 65535 < x → fit type.U16 x ≡ false
-  misfits-16 h = rw (le-ltb x (2 ^ 16) (omega arith))
+  misfits-16 h = above-misfits (2 ^ 16) x (omega arith)
 
   pub fits-32 : x ≤ 4294967295 → fit type.U32 x ≡ true
-  fits-32 h = rw (lt-ltb x (2 ^ 32) (omega arith))
+  fits-32 h = below-fits (2 ^ 32) x (omega arith)
 
   pub misfits-32 : 4294967295 < x → fit type.U32 x ≡ false
-  misfits-32 h = rw (le-ltb x (2 ^ 32) (omega arith))
+  misfits-32 h = above-misfits (2 ^ 32) x (omega arith)
 
 -- ---- numbers of a length that no row has
 

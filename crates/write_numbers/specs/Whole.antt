@@ -16,9 +16,11 @@ use Rattle.numbers.specs.Fits.{fit, fits, taken, fits-any, first-message}
 abbrev pub is-message : List ℕ → Bool
 is-message v = pick (ltb (length v) 2) false (pick (fit type.Device (getD v 1 0)) (fits-any (rows-of (getD v 0 0)) v) false)
 
+-- the device that the second number says
 abbrev pub device-in : List ℕ → DeviceID
 device-in v = taken type.Device (getD v 1 0)
 
+-- the message by the first row of the head code that the numbers fit, or by the last
 abbrev pub message-in : List ℕ → UniversalNonRealTimeMsg
 message-in v = first-message (rows-of (getD v 0 0)) v
 
