@@ -1,11 +1,14 @@
 -- The refusals of contents, rows 1 to 4: the layouts refuse as the rows' words say.
 -- Assumes nothing.
-use mathlib.Core.Path.{_≡_, refl, ap, ap₂, _∙_}
-use mathlib.Core.Option.{Option, none}
+use mathlib.Core.Path.{_≡_, refl, sym, ap, ap₂, _∙_}
+use mathlib.Core.Logic.{_↔_}
+use mathlib.Core.Option.{Option, none, some}
 use mathlib.Core.List.{List, [], _∷_}
 use Prim.Native.Nat.{ℕ}
+use native.Mathlib.Omega.{arith}
 use lib.ListN.{take}
 use Rattle.util.proofs.Laws.Options.{least-by-left}
+use Rattle.util.proofs.Laws.Refusals.{number-some}
 use Rattle.messages.specs.Types.{Refusal, Head, ManufacturerID, FileReferenceType}
 use Rattle.messages.specs.declared.head.Head.the-variants.{SampleDumpHeader, SampleDumpPacket, SampleDumpRequest, LoopPointTransmission, LoopPointsRequest, SampleName, SampleNameRequest, ExtendedHeader, ExtendedLoopPointTransmission, ExtendedLoopPointsRequest, IdentityRequest, IdentityReply, FileDumpHeader, FileDumpPacket, FileDumpRequest, TuningBulkDumpRequest, KeyBasedTuningDump, BankTuningBulkDumpRequest, BankKeyBasedTuningDump, ScaleTuningDump1Byte, ScaleTuningDump2Byte, TuningNoteChange, ScaleTuning1Byte, ScaleTuning2Byte, GeneralMidi1, GeneralMidiOff, GeneralMidi2, FileReferenceOpen, SelectSoundFile, SelectWAV, FileReferenceOpenSelect, FileReferenceClose, EOF, Wait, Cancel, NAK, ACK}
 use Rattle.messages.specs.declared.«system_exclusive».ManufacturerID.the-variants.{OneByte, Extended}
@@ -16,9 +19,9 @@ use Rattle.messages.specs.Fields.{u7, tuning, high, type-bytes}
 use Rattle.messages.specs.Structures.{key-tuning, most-changes, AfterMaker, reply, revision, identity-reply}
 use Rattle.messages.specs.Maps.{BankSelect, mapList, mapOffset, WAVSelect, wavMap, wavMapOffset, AnySelect, bankSelect, wavSelect, bank-select, wav-select, select-for, sound-file-map}
 use Rattle.messages.specs.Layouts.{Fields, form}
-use Rattle.messages.specs.Messages.{refusal}
+use Rattle.messages.specs.Messages.{Message, answer-number, refusal-number, refusal, given-unless, writeOf}
 use Rattle.messages.specs.Contents.{contents, zero-maker, other-kind, too-large, longer}
-use Rattle.messages.specs.Promises.{RefusedExactly}
+use Rattle.messages.specs.Promises.{RefusedExactly, WrittenZero}
 
 -- a list of what is never refused
 all-none : {A : Type 0} (p : Part A) → ((a : A) → p .refuses a ≡ none) → (l : List A) → all-refuse p l ≡ none
@@ -99,6 +102,26 @@ contents-same Cancel f = refl
 contents-same NAK f = refl
 contents-same ACK f = refl
 
-pub refused-exactly : RefusedExactly
+-- ---- by number
+
+pub refusal-is : (m : Message) → refusal m ≡ contents (m .head) (m .fields)
 unfolding refusal
-refused-exactly m = contents-same (m .head) (m .fields)
+refusal-is m = contents-same (m .head) (m .fields)
+
+unless-number : {A : Type 0} (o : Option Refusal) (a : A) → answer-number (given-unless o a) ≡ refusal-number o
+unless-number none a = refl
+unless-number (some r) a = refl
+
+written-number : (m : Message) → answer-number (writeOf m) ≡ refusal-number (refusal m)
+unfolding writeOf
+written-number m = unless-number (refusal m) _
+
+pub refused-exactly : RefusedExactly
+refused-exactly m = written-number m ∙ ap refusal-number (refusal-is m)
+
+zero-none : (o : Option Refusal) → refusal-number o ≡ 0 → o ≡ none
+zero-none none e = refl
+zero-none (some r) e = absurd (omega (arith, number-some r))
+
+pub written-zero : WrittenZero
+written-zero m = (λ n. zero-none (refusal m) (sym (written-number m) ∙ n), λ e. written-number m ∙ ap refusal-number e)

@@ -18,7 +18,7 @@ use Rattle.messages.specs.Messages.{refusal}
 use Rattle.messages.specs.MessageOf.{messageOf}
 use Rattle.messages.specs.Header.{with-rate, header-number}
 use Rattle.messages.specs.Promises.{HeaderAsSplit, HeaderAdmitted}
-use Rattle.messages.proofs.Contents.{refused-exactly}
+use Rattle.messages.proofs.Contents.{refusal-is}
 
 number-same : (a : SplitAnswer) (n b l s e : ℕ) (t : ExtendedLoopType) (c : ℕ) → header-number (with-rate a n b l s e t c) ≡ numbers-of a .number
 number-same (Pair w f) n b l s e t c = refl
@@ -29,7 +29,7 @@ header-as-split n b x l s e t c = number-same (split-of x) n b l s e t c
 
 admitted : (d : DeviceID) (n b w f l s e : ℕ) (t : ExtendedLoopType) (c : ℕ) (text entries : List ℕ) → w < 2 ^ 28 → f < 2 ^ 28 → refusal (messageOf d (ExtendedSampleDump (Header n b w f l s e t c)) text entries) ≡ none
 admitted d n b w f l s e t c text entries W F =
-    refused-exactly (messageOf d (ExtendedSampleDump (Header n b w f l s e t c)) text entries)
+    refusal-is (messageOf d (ExtendedSampleDump (Header n b w f l s e t c)) text entries)
     ∙ rw (lt-ltb w (2 ^ 28) W, lt-ltb f (2 ^ 28) F)
 
 pub header-admitted : HeaderAdmitted

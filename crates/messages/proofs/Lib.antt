@@ -9,3 +9,4 @@ pub mod Worked
 pub mod Formats
 pub mod Entries
 pub mod Identity
+pub mod Text

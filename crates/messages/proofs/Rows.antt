@@ -12,6 +12,7 @@ use lib.ListN.{length, length-append}
 use Rattle.util.specs.Groups.{Seven}
 use Rattle.util.specs.Checksum.{checksum}
 use Rattle.util.proofs.Laws.Options.{none-some}
+use Rattle.util.proofs.Laws.Refusals.{number-some, number-only}
 use Rattle.messages.specs.Types.{Refusal, Head, Kind, DeviceID}
 use Rattle.util.specs.declared.refusal.Refusal.the-variants as R
 use Rattle.messages.specs.declared.head.Head.the-variants.{SampleDumpHeader, SampleDumpPacket, SampleDumpRequest, LoopPointTransmission, LoopPointsRequest, SampleName, SampleNameRequest, ExtendedHeader, ExtendedLoopPointTransmission, ExtendedLoopPointsRequest, IdentityRequest, IdentityReply, FileDumpHeader, FileDumpPacket, FileDumpRequest, TuningBulkDumpRequest, KeyBasedTuningDump, BankTuningBulkDumpRequest, BankKeyBasedTuningDump, ScaleTuningDump1Byte, ScaleTuningDump2Byte, TuningNoteChange, ScaleTuning1Byte, ScaleTuning2Byte, GeneralMidi1, GeneralMidiOff, GeneralMidi2, FileReferenceOpen, SelectSoundFile, SelectWAV, FileReferenceOpenSelect, FileReferenceClose, EOF, Wait, Cancel, NAK, ACK}
@@ -21,8 +22,30 @@ use Rattle.messages.specs.format.{Got, bad, got, bad-got}
 use Rattle.messages.specs.Fields as field
 use Rattle.messages.specs.Layouts.{Fields, form, code, summed, reads}
 use Rattle.messages.specs.Messages.{Message, Answer, refused, given, answer-number, opening, unsnoc, inside, Opened, read-opening, plain-answer, sum-answer, read-summed, read-fields, read-opened, read-inside, readOf}
-use Rattle.messages.specs.Promises.{Shaped, Headed, ShapeExactly, HeadExactly}
-use Rattle.messages.proofs.Exact.{inside-back, inside-shaped, opening-back, opening-only}
+use Rattle.messages.specs.Promises.{IsFrameFor, Shaped, Headed, ReadZero, ShapeExactly, NoHead, HeadExactly}
+use Rattle.messages.proofs.Exact.{inside-back, inside-shaped, opening-back, opening-only, read-settled, reads-back}
+
+-- ---- an answer by its number
+
+pub refused-by : {A : Type 0} (a : Answer A) (r : Refusal) → answer-number a ≡ number r → a ≡ refused r
+refused-by (refused s) r e = ap refused (number-only s r e)
+refused-by (given x) r e = absurd (omega (arith, number-some r))
+
+pub numbered-row : {A P : Type 0} (a : Answer A) (r : Refusal) → (a ≡ refused r) ↔ P → (answer-number a ≡ number r) ↔ P
+numbered-row a r w = (λ n. w .0 (refused-by a r n), λ p. ap answer-number (w .1 p))
+
+-- the message of an answer whose number is 0
+pub given-by : (a : Answer Message) → answer-number a ≡ 0 → (m : Message) × (a ≡ given m)
+given-by (refused r) e = absurd (omega (arith, number-some r))
+given-by (given m) e = (m, refl)
+
+pub read-zero : ReadZero
+read-zero k bs = (
+  λ n. let g = given-by (readOf k bs) n in
+      let s = read-settled k bs (g .0) (g .1) in
+      record { message = g .0; settled = s .0; frame = s .1 },
+  λ f. ap answer-number (reads-back k (f .message) bs (f .settled) (f .frame)),
+)
 
 -- ---- which refusals a reading comes to
 
@@ -78,9 +101,12 @@ shape-by : (k : Kind) (bs : List ℕ) (o : Option (List ℕ)) → inside bs ≡ 
 shape-by k bs none e = (λ h s. none-some (sym e ∙ shaped-inside bs s), λ h. refl)
 shape-by k bs (some mid) e = (λ h s. opened-not-shape (read-opening k mid) h, λ h. absurd (h (inside-record bs mid e)))
 
-pub shape-exactly : ShapeExactly
+shape-refused : (k : Kind) (bs : List ℕ) → (readOf k bs ≡ refused R.Shape) ↔ (Shaped bs → ⊥)
 unfolding readOf
-shape-exactly k bs = shape-by k bs (inside bs) refl
+shape-refused k bs = shape-by k bs (inside bs) refl
+
+pub shape-exactly : ShapeExactly
+shape-exactly k bs = numbered-row (readOf k bs) R.Shape (shape-refused k bs)
 
 -- ---- 7 HEAD
 
@@ -158,14 +184,17 @@ head-by k mid s (got o r) e = (
 same-mid : (bs mid : List ℕ) (s : Shaped bs) → inside bs ≡ some mid → s .mid ≡ mid
 same-mid bs mid s e = let z : some (s .mid) ≡ some mid = sym (shaped-inside bs s) ∙ e in cc
 
-head-at : (k : Kind) (bs : List ℕ) (o : Option (List ℕ)) → inside bs ≡ o → (read-inside k o ≡ refused R.Head) ↔ ((s : Shaped bs) × (Headed (s .mid) → ⊥))
-head-at k bs none e = (λ h. absurd (omega (arith, same-number h)), λ x. absurd (none-some (sym e ∙ shaped-inside bs (x .0))))
+head-at : (k : Kind) (bs : List ℕ) (o : Option (List ℕ)) → inside bs ≡ o → (read-inside k o ≡ refused R.Head) ↔ NoHead bs
+head-at k bs none e = (λ h. absurd (omega (arith, same-number h)), λ x. absurd (none-some (sym e ∙ shaped-inside bs (x .shaped))))
 head-at k bs (some mid) e =
     let s = inside-record bs mid e in (
-      λ h. (s, head-by k mid (s .low) (read-opening k mid) refl .0 h),
-      λ x. head-by k mid (s .low) (read-opening k mid) refl .1 (λ d. x .1 (subst Headed (sym (same-mid bs mid (x .0) e)) d)),
+      λ h. record { shaped = s; not-headed = head-by k mid (s .low) (read-opening k mid) refl .0 h },
+      λ x. head-by k mid (s .low) (read-opening k mid) refl .1 (λ d. x .not-headed (subst Headed (sym (same-mid bs mid (x .shaped) e)) d)),
     )
 
-pub head-exactly : HeadExactly
+head-refused : (k : Kind) (bs : List ℕ) → (readOf k bs ≡ refused R.Head) ↔ NoHead bs
 unfolding readOf
-head-exactly k bs = head-at k bs (inside bs) refl
+head-refused k bs = head-at k bs (inside bs) refl
+
+pub head-exactly : HeadExactly
+head-exactly k bs = numbered-row (readOf k bs) R.Head (head-refused k bs)

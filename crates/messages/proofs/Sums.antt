@@ -2,6 +2,7 @@
 -- Assumes nothing.
 use mathlib.Core.Path.{_≡_, refl, sym, ap, _∙_}
 use mathlib.Core.Bool.{Bool, true, false}
+use mathlib.Core.Logic.{_↔_}
 use mathlib.Core.Option.{Option, none, some}
 use mathlib.Core.List.{List, [], _∷_, _++_, append-assoc}
 use Prim.Native.Nat.{ℕ, _<_}
@@ -19,7 +20,7 @@ use Rattle.messages.specs.Layouts.{Fields, form, summed}
 use Rattle.messages.specs.Messages.{Message, make, Answer, refused, given, opening, body, with-sum, framed, unsnoc, inside, Opened, read-opening, plain-answer, sum-answer, read-summed, read-fields, read-opened, read-inside, readOf}
 use Rattle.messages.specs.Promises.{IsFrameFor, Headed, checked, OtherSum, NoFrame, SumExactly, FieldExactly}
 use Rattle.messages.proofs.Exact.{parts-settled, settled-parts, write-settled, unsnoc-back, unsnoc-only, inside-back, inside-shaped, opening-back, opening-only, body-seven, body-long, refused-given, read-settled, reads-back}
-use Rattle.messages.proofs.Rows.{same-number, Late, message, field-refused, sum-refused, late-fields, inside-record, shaped-inside, opened-headed, headed-found}
+use Rattle.messages.proofs.Rows.{numbered-row, same-number, Late, message, field-refused, sum-refused, late-fields, inside-record, shaped-inside, opened-headed, headed-found}
 
 -- ---- 9 SUM
 
@@ -122,7 +123,7 @@ sum-refuses k bs o =
     ∙ wrong-sum (summed (m .head)) (m .device) (m .head) (m .fields) (o .sum) (o .head-sums) (h .1) (λ e. o .wrong (e ∙ i .1))
 
 pub sum-exactly : SumExactly
-sum-exactly k bs = (sum-refused-of k bs, sum-refuses k bs)
+sum-exactly k bs = numbered-row (readOf k bs) R.Sum (sum-refused-of k bs, sum-refuses k bs)
 
 -- ---- 8 FIELD
 
@@ -157,12 +158,15 @@ field-of k bs u (given m) message e =
 field-of k bs u (refused r) field-refused e = e
 field-of k bs u (refused r) sum-refused e = absurd (u .not-sum (sum-refused-of k bs e))
 
-pub field-exactly : FieldExactly
+field-answer : (k : Kind) (bs : List ℕ) → (readOf k bs ≡ refused R.Field) ↔ NoFrame k bs
 unfolding readOf
-field-exactly k bs = (
+field-answer k bs = (
   no-frame k bs (inside bs) refl,
   λ u.
       field-of k bs u (readOf k bs)
       (rw (shaped-inside bs (u .shaped)) (late-opened k (u .shaped .mid) (read-opening k (u .shaped .mid)) (headed-found k (u .shaped .mid) (u .shaped .low) (u .headed))))
       refl,
 )
+
+pub field-exactly : FieldExactly
+field-exactly k bs = numbered-row (readOf k bs) R.Field (field-answer k bs)

@@ -1,5 +1,6 @@
 -- Identity reading (01, "Beside the walk"), of the bytes l "from the head on": a row for each clause, in 01's order.
 use mathlib.Core.Bool.{Bool, not, _&&_, _||_}
+use mathlib.Core.Option.{Option, none, some}
 use mathlib.Core.List.{List, [], _∷_}
 use Prim.Native.Nat.{ℕ, _+_}
 use lib.Dec.{eqb, ltb}
@@ -22,6 +23,11 @@ Row = Bool × Refusal
 abbrev pub first-of : List Row → IdentityReply → IdentityReading
 first-of [] r = Reply r
 first-of (x ∷ xs) r = pick (x .0) (Refused (x .1)) (first-of xs r)
+
+-- its number, 0 where none does
+abbrev pub first-number : List Row → ℕ
+first-number [] = 0
+first-number (x ∷ xs) = pick (x .0) (number (x .1)) (first-number xs)
 
 abbrev pub over-7F : ℕ → Bool
 over-7F b = ltb 0x7F b
@@ -75,3 +81,8 @@ identityOf l = first-of (rows l) (reply-in l)
 abbrev pub identity-number : IdentityReading → ℕ
 identity-number (Reply r) = 0
 identity-number (Refused r) = number r
+
+-- 01's value: "each reading the message"
+abbrev pub identity-value : IdentityReading → Option IdentityReply
+identity-value (Reply r) = some r
+identity-value (Refused r) = none

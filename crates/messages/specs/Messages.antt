@@ -3,9 +3,10 @@ use mathlib.Core.Path.{_≡_}
 use mathlib.Core.Bool.{Bool, true, false, _&&_}
 use mathlib.Core.Option.{Option, none, some}
 use mathlib.Core.List.{List, [], _∷_, _++_}
-use Prim.Native.Nat.{ℕ}
+use Prim.Native.Nat.{ℕ, _+_}
 use lib.Dec.{leb, eqb}
 use lib.ListN.{length}
+use Rattle.util.specs.Pick.{pick}
 use Rattle.util.specs.Groups.{seven}
 use Rattle.util.specs.Checksum.{checksum}
 use Rattle.util.specs.Options.{only-if}
@@ -15,7 +16,7 @@ use Rattle.util.specs.Refusals.{number}
 use Rattle.messages.specs.Refusals.{least}
 use Rattle.messages.specs.format.{Got, bad, got, bind, bindW, strip, after, find}
 use Rattle.messages.specs.Fields as field
-use Rattle.messages.specs.Layouts.{Fields, form, code, summed, reads, all-heads, file-data-in, entries-in}
+use Rattle.messages.specs.Layouts.{Fields, form, code, summed, reads, all-heads, text-at, text-in, file-data-in, entries-in}
 
 -- "Messages are the same if device, head and every field are, parts by their bytes"
 pub record Message : Type 0 where
@@ -35,6 +36,11 @@ pub data Answer (A : Type 0) : Type 0 where
 abbrev pub answer-number : {A : Type 0} → Answer A → ℕ
 answer-number (refused r) = number r
 answer-number (given a) = 0
+
+-- the number of a refusal of contents, 0 for none
+abbrev pub refusal-number : Option Refusal → ℕ
+refusal-number none = 0
+refusal-number (some r) = number r
 
 -- ---- writing
 
@@ -143,6 +149,16 @@ read-inside k (some mid) = read-opened (read-opening k mid)
 unfoldable pub readOf : Kind → List ℕ → Answer Message
 readOf k bs = read-inside k (inside bs)
 
+-- ---- "Names, URLs and sample bytes come back as parts of the frame lent"
+
+-- the name, URL or sample bytes of a message
+abbrev pub text : Message → List ℕ
+text m = text-in (m .head) (m .fields)
+
+-- where they begin in its frame: behind F0, 7E, the device, the head and the fields before them; 0 where the message has none
+abbrev pub text-start : Message → ℕ
+text-start m = pick (eqb (text-at (m .head)) 0) 0 (3 + length (code (m .head)) + text-at (m .head))
+
 -- ---- lent space: "file data and entries (tunings, note changes, bank map records) go to lent space, one place each"
 
 -- the file data of a message, a place each
@@ -152,6 +168,10 @@ file-data m = file-data-in (m .head) (m .fields)
 -- the entries of a message, a place each
 abbrev pub entries : Message → List ℕ
 entries m = entries-in (m .head) (m .fields)
+
+-- the lent places that a message takes; no message has both file data and entries
+abbrev pub places : Message → ℕ
+places m = length (file-data m) + length (entries m)
 
 -- HOLD: "fewer lent places than this message's file data bytes or entries"
 abbrev pub holds : ℕ → ℕ → Message → Bool

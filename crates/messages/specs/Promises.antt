@@ -2,23 +2,21 @@
 use mathlib.Core.Path.{_≡_}
 use mathlib.Core.Logic.{_↔_}
 use mathlib.Core.Bool.{true}
-use mathlib.Core.Option.{none}
+use mathlib.Core.Option.{none, some}
 use mathlib.Core.List.{List, [], _∷_, _++_}
 use Prim.Native.Nat.{ℕ, _+_, _<_, _≤_}
 use lib.Ieee.{Float}
 use lib.ListN.{length, getD, take, drop}
 use Rattle.util.specs.Groups.{Seven}
-use Rattle.util.specs.declared.refusal.Refusal.the-variants as R
 use Rattle.rates.specs.Rate.{split-of, numbers-of}
 use Rattle.messages.specs.declared.head.Head.the-variants as head
-use Rattle.messages.specs.declared.«system_exclusive».IdentityReading.the-variants.{Reply}
 use Rattle.messages.specs.Types.{Head, Kind, DeviceID, ExtendedSampleDumpMsg, ExtendedLoopType, IdentityReply}
 use Rattle.messages.specs.declared.«sample_dump».HeaderAnswer.the-variants as header
 use Rattle.messages.specs.declared.«system_exclusive».UniversalNonRealTimeMsg.the-variants.{ExtendedSampleDump}
 use Rattle.messages.specs.Layouts.{form, code, summed, reads}
-use Rattle.messages.specs.Messages.{Message, refused, given, refusal, settle, writeOf, Settled, SettledFor, readOf}
+use Rattle.messages.specs.Messages.{Message, given, answer-number, refusal-number, refusal, settle, writeOf, Settled, SettledFor, readOf, text, text-start}
 use Rattle.messages.specs.Contents.{contents}
-use Rattle.messages.specs.Identity.{identityOf}
+use Rattle.messages.specs.Identity.{rows, first-number, reply-in, identityOf, identity-number, identity-value}
 use Rattle.messages.specs.MessageOf.{messageOf}
 use Rattle.messages.specs.Header.{header-of, header-number}
 use Rattle.messages.specs.Walk.{Listed, Rising, since, frames}
@@ -45,7 +43,11 @@ AdmittedWritten = (m : Message) → refusal m ≡ none → (bs : List ℕ) × Is
 
 -- rows 1 to 4: a message is refused as its contents say
 abbrev pub RefusedExactly : Type 0
-RefusedExactly = (m : Message) → refusal m ≡ contents (m .head) (m .fields)
+RefusedExactly = (m : Message) → answer-number (writeOf m) ≡ refusal-number (contents (m .head) (m .fields))
+
+-- "Where nothing is refused the number is 0": for the messages that are admitted, and no others
+abbrev pub WrittenZero : Type 0
+WrittenZero = (m : Message) → (answer-number (writeOf m) ≡ 0) ↔ (refusal m ≡ none)
 
 -- six bytes or more: F0, bytes of at most 127, F7
 pub record Shaped (bs : List ℕ) : Type 0 where
@@ -76,9 +78,13 @@ ReadsBack = (k : Kind) (m : Message) (bs : List ℕ) → SettledFor k m → IsFr
 abbrev pub WrittenReads : Type 0
 WrittenReads = (k : Kind) (m : Message) (bs : List ℕ) → reads k (m .head) ≡ true → IsFrame m bs → readOf k bs ≡ given (settle m)
 
+-- "Where nothing is refused the number is 0": for the frames of settled messages, and no other bytes
+abbrev pub ReadZero : Type 0
+ReadZero = (k : Kind) (bs : List ℕ) → (answer-number (readOf k bs) ≡ 0) ↔ IsFrameFor k bs
+
 -- row 6, SHAPE
 abbrev pub ShapeExactly : Type 0
-ShapeExactly = (k : Kind) (bs : List ℕ) → (readOf k bs ≡ refused R.Shape) ↔ (Shaped bs → ⊥)
+ShapeExactly = (k : Kind) (bs : List ℕ) → (answer-number (readOf k bs) ≡ 6) ↔ (Shaped bs → ⊥)
 
 -- 7E, any device, a head of the table
 pub record Headed (mid : List ℕ) : Type 0 where
@@ -87,9 +93,14 @@ pub record Headed (mid : List ℕ) : Type 0 where
   pub rest : List ℕ
   pub is : 0x7E ∷ to ∷ (code head ++ rest) ≡ mid
 
+-- the shape is right, "second byte not 7E, or a head not above"
+pub record NoHead (bs : List ℕ) : Type 0 where
+  pub shaped : Shaped bs
+  pub not-headed : Headed (shaped .mid) → ⊥
+
 -- row 7, HEAD
 abbrev pub HeadExactly : Type 0
-HeadExactly = (k : Kind) (bs : List ℕ) → (readOf k bs ≡ refused R.Head) ↔ ((s : Shaped bs) × (Headed (s .mid) → ⊥))
+HeadExactly = (k : Kind) (bs : List ℕ) → (answer-number (readOf k bs) ≡ 7) ↔ NoHead bs
 
 -- F0, what is summed, the checksum byte, F7
 abbrev pub checked : List ℕ → ℕ → List ℕ
@@ -110,7 +121,7 @@ pub record OtherSum (k : Kind) (bs : List ℕ) : Type 0 where
 
 -- row 9, SUM
 abbrev pub SumExactly : Type 0
-SumExactly = (k : Kind) (bs : List ℕ) → (readOf k bs ≡ refused R.Sum) ↔ OtherSum k bs
+SumExactly = (k : Kind) (bs : List ℕ) → (answer-number (readOf k bs) ≡ 9) ↔ OtherSum k bs
 
 -- shape and head are right, "no message settled for the named kind has the frame, and 9 does not apply"
 pub record NoFrame (k : Kind) (bs : List ℕ) : Type 0 where
@@ -121,13 +132,32 @@ pub record NoFrame (k : Kind) (bs : List ℕ) : Type 0 where
 
 -- row 8, FIELD
 abbrev pub FieldExactly : Type 0
-FieldExactly = (k : Kind) (bs : List ℕ) → (readOf k bs ≡ refused R.Field) ↔ NoFrame k bs
+FieldExactly = (k : Kind) (bs : List ℕ) → (answer-number (readOf k bs) ≡ 8) ↔ NoFrame k bs
+
+-- "Names, URLs and sample bytes come back as parts of the frame lent": a settled message's stand in its frame where it says, also where there are none
+pub record TextStands (m : Message) (bs : List ℕ) : Type 0 where
+  pub inside : text-start m + length (text m) ≤ length bs
+  pub there : take (length (text m)) (drop (text-start m) bs) ≡ text m
+
+abbrev pub TextInFrame : Type 0
+TextInFrame = (m : Message) (bs : List ℕ) → Settled m → IsFrame m bs → TextStands m bs
 
 -- ---- identity reading
 
+-- rows 13 to 15: the number is that of the first row that applies. "Where nothing is refused the number is 0": the reply is the bytes'
+abbrev pub IdentityExactly : Type 0
+IdentityExactly =
+    (l : List ℕ) → (identity-number (identityOf l) ≡ first-number (rows l)) × (first-number (rows l) ≡ 0 → identity-value (identityOf l) ≡ some (reply-in l))
+
+-- the bytes of a reply from its head on
+abbrev pub reply-bytes : IdentityReply → List ℕ
+reply-bytes r = code head.IdentityReply ++ form head.IdentityReply .bytes r
+
 -- a settled reply, from its head on, is read as that reply
 abbrev pub IdentityBack : Type 0
-IdentityBack = (r : IdentityReply) → form head.IdentityReply .settled r → identityOf (code head.IdentityReply ++ form head.IdentityReply .bytes r) ≡ Reply r
+IdentityBack =
+    (r : IdentityReply) → form head.IdentityReply .settled r
+    → (identity-number (identityOf (reply-bytes r)) ≡ 0) × (identity-value (identityOf (reply-bytes r)) ≡ some r)
 
 -- ---- the walk: demand 3
 
