@@ -10,3 +10,4 @@ pub mod Formats
 pub mod Entries
 pub mod Identity
 pub mod Text
+pub mod Enum
