@@ -21,7 +21,7 @@ use Rattle.messages.specs.format.Sequence.{_⊗_, end, nothing, strip}
 use Rattle.messages.specs.format.Tests.{other-length}
 use Rattle.messages.specs.Fields.{u7, zero-then, one-byte-maker, extended-maker}
 use Rattle.messages.specs.Structures.{AfterMaker, after-maker, reply}
-use Rattle.messages.specs.Layouts.{Fields, form}
+use Rattle.messages.specs.Layouts.{Fields, form, text-at}
 use Rattle.messages.specs.Messages.{make, given, plain-answer}
 use Rattle.reading.specs.Places.{value-at}
 use Rattle.reading.specs.declared.Found.the-variants.{Is}
@@ -33,9 +33,9 @@ use Rattle.read_system_exclusive.specs.Replies.{after-maker-at, one-zero
 -- a message of numbers alone
 pub reads-numbers : (h : Head) (m : UniversalNonRealTimeMsg) (f : List ℕ) (x : Fields h)
     → ((d : DeviceID) → found-of d (Is m 0 0 0 0) f ≡ given (make d h x))
-    → length (data-of m f 0) + length (entries-of m f 0 0) ≡ 0 → form h .read f ≡ some x → Reads h (Is m 0 0 0 0) f
-reads-numbers h m f x says z e =
-    record { says = λ d. says d ∙ ap (plain-answer d h) (sym e); part = (omega arith, omega arith, omega arith, z) }
+    → length (data-of m f 0) + length (entries-of m f 0 0) ≡ 0 → text-at h ≡ 0 → form h .read f ≡ some x → Reads h (Is m 0 0 0 0) f
+reads-numbers h m f x says z t e =
+    record { says = λ d. says d ∙ ap (plain-answer d h) (sym e); part = (omega arith, omega arith, omega arith, z); start = (sym t, rw t) }
 
 -- ---- no fields
 

@@ -4,7 +4,9 @@ use mathlib.Core.Bool.{Bool, true, false}
 use mathlib.Core.Option.{Option, none, some}
 use mathlib.Core.List.{List, []}
 use Prim.Native.Nat.{ℕ, _+_, _≤_}
+use lib.Dec.{eqb}
 use lib.ListN.{length, take, drop}
+use Rattle.util.specs.Pick.{pick}
 use Rattle.util.specs.declared.refusal.Refusal.the-variants as R
 use Rattle.messages.specs.declared.head.Head.{Head}
 use Rattle.messages.specs.declared.«system_exclusive».DeviceID.{DeviceID}
@@ -16,7 +18,7 @@ use Rattle.messages.specs.declared.«file_reference».SelectMap.{SelectMap}
 use Rattle.messages.specs.declared.«file_reference».SelectMap.the-variants as select
 use Rattle.messages.specs.declared.«file_reference».FileReferenceMsg.{FileReferenceMsg}
 use Rattle.messages.specs.declared.«file_reference».FileReferenceMsg.the-variants as reference
-use Rattle.messages.specs.Layouts.{form}
+use Rattle.messages.specs.Layouts.{form, text-at}
 use Rattle.messages.specs.Messages.{Message, Answer, refused, given, plain-answer}
 use Rattle.messages.specs.MessageOf.{messageOf}
 use Rattle.reading.specs.declared.Found.{Found}
@@ -123,10 +125,16 @@ within (Is m from len i n) f =
     (from + len ≤ length f) × (i ≤ length f) × (n ≤ 128) × (length (data-of m f i) + length (entries-of m f i n) ≡ n)
 within Nothing f = Unit {0}
 
+-- the text starts where the layout has it; where the layout has none, at 0 and with no bytes
+abbrev pub starts : Head → Found → Type 0
+starts h (Is m from len i n) = (from ≡ text-at h) × (pick (eqb (text-at h) 0) len 0 ≡ 0)
+starts h Nothing = Unit {0}
+
 -- what was found of the fields f under a head is what the layout reads
 pub record Reads (h : Head) (r : Found) (f : List ℕ) : Type 0 where
   pub says : (d : DeviceID) → found-of d r f ≡ plain-answer d h (form h .read f)
   pub part : within r f
+  pub start : starts h r
 
 -- whether a layout reads fields
 abbrev pub is-read : {A : Type 0} → Option A → Bool

@@ -66,6 +66,7 @@ module _ (f : List ℕ) (s : Seven f) where
       (record {
         says = λ d. ap (plain-answer d head.FileDumpHeader) (sym (header-reads h m));
         part = (omega arith, omega arith, omega arith, refl);
+        start = (refl, refl);
       })
 
   -- ---- 07 03
@@ -99,6 +100,7 @@ module _ (f : List ℕ) (s : Seven f) where
       (record {
         says = λ d. ap (plain-answer d head.FileDumpRequest) (sym (request-reads h m));
         part = (omega arith, omega arith, omega arith, refl);
+        start = (refl, refl);
       })
 
   -- ---- 07 02
@@ -158,4 +160,5 @@ module _ (f : List ℕ) (s : Seven f) where
       (record {
         says = λ d. ap (plain-answer d head.FileDumpPacket) (sym (packet-reads h t (omega arith) (c ∙ ap (λ (m : ℕ). m + m / 7) z)));
         part = (omega arith, h, omega arith, omega arith);
+        start = (refl, refl);
       })

@@ -112,4 +112,5 @@ module _ (f : List ℕ) (s : Seven f) where
                 record {
                   says = λ d. ap (plain-answer d head.FileReferenceOpen) (sym (open-reads v));
                   part = omega arith;
+                  start = (refl, refl);
                 }

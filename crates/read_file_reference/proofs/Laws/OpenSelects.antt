@@ -1,6 +1,6 @@
 -- 0B 03, by the type, the URL and the map that was found.
 -- Assumes nothing.
-use mathlib.Core.Path.{_≡_, sym, ap, _∙_}
+use mathlib.Core.Path.{_≡_, refl, sym, ap, _∙_}
 use mathlib.Core.Option.{none, some}
 use mathlib.Core.List.{List, [], _∷_, _++_}
 use Prim.Native.Nat.{ℕ, suc, _+_, _<_, _≤_}
@@ -103,4 +103,5 @@ module _ (f : List ℕ) (s : Seven f) where
                   record {
                     says = λ d. ap (plain-answer d head.FileReferenceOpenSelect) (sym r);
                     part = omega (arith, p .part);
+                    start = (refl, refl);
                   }

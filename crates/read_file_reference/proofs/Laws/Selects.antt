@@ -136,6 +136,7 @@ module _ (f : List ℕ) (s : Seven f) (n : 4 ≤ length f) where
         record {
           says = λ d. ap given (bank-message d (value-at 2 f 0) m (entries-select m f i k) y z) ∙ ap (plain-answer d head.SelectSoundFile) (sym r);
           part = omega (arith, p .part);
+          start = (refl, refl);
         }
 
     pub wav-found : Picks wav-only (Is m len i k) f 4 → value-at 2 f 2 ≡ len
@@ -146,4 +147,5 @@ module _ (f : List ℕ) (s : Seven f) (n : 4 ≤ length f) where
         record {
           says = λ d. ap given (wav-message d (value-at 2 f 0) m (entries-select m f i k) y z) ∙ ap (plain-answer d head.SelectWAV) (sym r);
           part = omega (arith, p .part);
+          start = (refl, refl);
         }

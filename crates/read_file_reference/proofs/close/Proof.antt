@@ -1,7 +1,7 @@
 -- `read_file_reference::close` meets its contract: a length and two bytes of 00.
 -- Assumes nothing.
 use borrow.Author.Needs.{needs}
-use mathlib.Core.Path.{sym, ap, _∙_}
+use mathlib.Core.Path.{refl, sym, ap, _∙_}
 use native.Mathlib.Omega.{arith}
 use denote.Ref.{now}
 use Rattle.messages.specs.declared.head.Head.the-variants as head
@@ -44,6 +44,7 @@ returns-4 c =
     record {
       says = λ d. rw (c .u14-at .ensures) (ap (plain-answer d head.FileReferenceClose) (sym r));
       part = omega arith;
+      start = (refl, refl);
     }
 
 pub close-spec : {M : Type 1} → statement M

@@ -39,7 +39,7 @@ returns-2 c =
     let f = now (s .args .f) in
     let x = reply (Extended (value-at 1 f 1) (value-at 1 f 2)) (after-maker-at f 3) in
     rw (c .reply-of .ensures, c .before .u7-at2 .ensures, c .before .before .u7-at .ensures)
-    (reads-numbers head.IdentityReply (msg.IdentityReply x) f x (λ d. refl) refl (extended-reads f (s .pre .0) (s .pre .1) (c .before .before .before .if1 .left)))
+    (reads-numbers head.IdentityReply (msg.IdentityReply x) f x (λ d. refl) refl refl (extended-reads f (s .pre .0) (s .pre .1) (c .before .before .before .if1 .left)))
 
 pub extended-reply-spec : {M : Type 1} → statement M
 extended-reply-spec =

@@ -20,7 +20,7 @@ numbers-requires c κs = search needs
 returns-2 : tie.Need-returns-2
 returns-2 c =
     let f = now (c .before .before .before .args .f) in
-    rw (c .numbers .ensures) (reads-numbers head.GeneralMidi1 (msg.GeneralMidi GM1) f tt (λ d. refl) refl (nothing-reads f (c .before .if1 .left)))
+    rw (c .numbers .ensures) (reads-numbers head.GeneralMidi1 (msg.GeneralMidi GM1) f tt (λ d. refl) refl refl (nothing-reads f (c .before .if1 .left)))
 
 pub general-midi-1-spec : {M : Type 1} → statement M
 general-midi-1-spec = tie.close (tie.spec returns numbers-requires returns-2)

@@ -39,7 +39,7 @@ returns-3 c =
     let f = now (s .args .f) in
     let x = reply (OneByte (getD f 0 0)) (after-maker-at f 1) in
     rw (c .reply-of .ensures)
-    (reads-numbers head.IdentityReply (msg.IdentityReply x) f x (λ d. refl) refl (one-byte-reads f (s .pre .0) (s .pre .1) (omega (arith, c .before .before .if1 .left)) (omega (arith, c .before .if2 .left))))
+    (reads-numbers head.IdentityReply (msg.IdentityReply x) f x (λ d. refl) refl refl (one-byte-reads f (s .pre .0) (s .pre .1) (omega (arith, c .before .before .if1 .left)) (omega (arith, c .before .if2 .left))))
 
 pub one-byte-reply-spec : {M : Type 1} → statement M
 one-byte-reply-spec =

@@ -26,6 +26,7 @@ returns-2 c =
     record {
       says = λ d. rw (c .u7-at2 .ensures, c .before .u7-at .ensures) (ap (plain-answer d head.BankTuningBulkDumpRequest) (sym (bank-bulk-reads (now (s .args .f)) (s .pre) (c .before .before .if1 .left))));
       part = (omega arith, omega arith, omega arith, refl);
+      start = (refl, refl);
     }
 
 pub bank-bulk-request-spec : {M : Type 1} → statement M

@@ -27,6 +27,7 @@ returns-2 c =
     record {
       says = λ d. rw (c .u7-at2 .ensures, c .before .u7-at .ensures) (ap (plain-answer d head.BankKeyBasedTuningDump) (sym (bank-keys-read (now (s .args .f)) (s .pre) n)));
       part = (omega arith, omega arith, omega arith, refl);
+      start = (refl, refl);
     }
 
 pub bank-key-dump-spec : {M : Type 1} → statement M

@@ -23,6 +23,7 @@ returns-2 c =
     record {
       says = λ d. rw (c .u7-at .ensures) (ap (plain-answer d head.TuningBulkDumpRequest) (sym (bulk-reads (now (s .args .f)) (s .pre) (c .before .if1 .left))));
       part = (omega arith, omega arith, omega arith, refl);
+      start = (refl, refl);
     }
 
 pub bulk-request-spec : {M : Type 1} → statement M

@@ -24,6 +24,7 @@ returns-2 c =
     record {
       says = λ d. rw (c .u7-at .ensures) (ap (plain-answer d head.KeyBasedTuningDump) (sym (keys-read (now (s .args .f)) (s .pre) n)));
       part = (omega arith, omega arith, omega arith, refl);
+      start = (refl, refl);
     }
 
 pub key-dump-spec : {M : Type 1} → statement M

@@ -1,6 +1,6 @@
 -- `read_tuning::note_change` meets its contract.
 -- Assumes nothing.
-use mathlib.Core.Path.{sym, ap, _∙_}
+use mathlib.Core.Path.{refl, sym, ap, _∙_}
 use Prim.Native.Nat.{ℕ, _+_, _*_, _<_}
 use native.Mathlib.Omega.{arith}
 use denote.Ref.{now}
@@ -56,6 +56,7 @@ returns-3 c =
     record {
       says = λ d. rw (c .u7-at3 .ensures, c .before .u7-at2 .ensures, e) (ap (plain-answer d head.TuningNoteChange) (sym (changes-read f (s .pre) m n)));
       part = (omega arith, omega arith, omega arith, omega (arith, entries-length (λ j. change-entry (change-at f j)) 4 (i .before .u7-at .result) 3));
+      start = (refl, refl);
     }
 
 pub note-change-spec : {M : Type 1} → statement M

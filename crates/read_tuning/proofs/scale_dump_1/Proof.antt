@@ -30,6 +30,7 @@ returns-2 c =
     record {
       says = λ d. rw (c .scale-1-at .ensures, c .before .u7-at2 .ensures, c .before .before .u7-at .ensures) (ap (plain-answer d head.ScaleTuningDump1Byte) (sym (scale-dump-1-reads (now (s .args .f)) (s .pre) n)));
       part = (omega arith, omega arith, omega arith, refl);
+      start = (refl, refl);
     }
 
 pub scale-dump-1-spec : {M : Type 1} → statement M

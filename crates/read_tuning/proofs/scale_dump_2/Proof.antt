@@ -30,6 +30,7 @@ returns-2 c =
     record {
       says = λ d. rw (c .scale-2-at .ensures, c .before .u7-at2 .ensures, c .before .before .u7-at .ensures) (ap (plain-answer d head.ScaleTuningDump2Byte) (sym (scale-dump-2-reads (now (s .args .f)) (s .pre) n)));
       part = (omega arith, omega arith, omega arith, refl);
+      start = (refl, refl);
     }
 
 pub scale-dump-2-spec : {M : Type 1} → statement M

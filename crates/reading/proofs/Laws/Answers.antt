@@ -21,7 +21,7 @@ use Rattle.reading.specs.declared.Found.the-variants.{Is, Nothing}
 use Rattle.reading.specs.Found.{Reads, is-read}
 
 pub reads-none : (h : Head) (f : List ℕ) → form h .read f ≡ none → Reads h Nothing f
-reads-none h f e = record { says = λ d. ap (plain-answer d h) (sym e); part = tt }
+reads-none h f e = record { says = λ d. ap (plain-answer d h) (sym e); part = tt; start = tt }
 
 -- nothing is left behind the last field
 pub none-left : (f : List ℕ) (n : ℕ) → length f ≡ n → drop n f ≡ []

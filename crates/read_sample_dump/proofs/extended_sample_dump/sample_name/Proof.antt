@@ -1,6 +1,6 @@
 -- `read_sample_dump::extended_sample_dump::sample_name` meets its contract: 00 and the count stand before the name, and nothing follows it.
 use borrow.Author.Needs.{needs}
-use mathlib.Core.Path.{sym, ap, _∙_}
+use mathlib.Core.Path.{refl, sym, ap, _∙_}
 use Prim.Native.Nat.{ℕ, _+_}
 use native.Mathlib.Omega.{arith}
 use denote.Ref.{now}
@@ -44,6 +44,7 @@ returns-4 c =
     record {
       says = λ d. rw (c .u14-at .ensures, x) (ap (plain-answer d head.SampleName) (sym (name-reads (now (s .args .f)) (s .pre) (c .before .before .before .before .before .if1 .left) z n)));
       part = omega (arith, c .before .if3 .left);
+      start = (refl, refl);
     }
 
 pub sample-name-spec : {M : Type 1} → statement M

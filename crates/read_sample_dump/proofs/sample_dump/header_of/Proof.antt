@@ -1,6 +1,6 @@
 -- `read_sample_dump::sample_dump::header_of` meets its contract: each number is read by place.
 use borrow.Author.Needs.{needs}
-use mathlib.Core.Path.{sym, ap}
+use mathlib.Core.Path.{refl, sym, ap}
 use native.Mathlib.Omega.{arith}
 use denote.Ref.{now}
 use Rattle.messages.specs.declared.head.Head.the-variants as head
@@ -42,6 +42,7 @@ returns c =
         c .before .before .before .before .before .u14-at .ensures,
       ) (ap (plain-answer d head.SampleDumpHeader) (sym e));
       part = omega (arith, p .1);
+      start = (refl, refl);
     }
 
 pub header-of-spec : {M : Type 1} → statement M

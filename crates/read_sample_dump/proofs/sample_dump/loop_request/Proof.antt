@@ -1,6 +1,6 @@
 -- `read_sample_dump::sample_dump::loop_request` meets its contract: the length is that of the layout, and 16,383 is request all.
 use borrow.Author.Needs.{needs}
-use mathlib.Core.Path.{sym, ap}
+use mathlib.Core.Path.{refl, sym, ap}
 use native.Mathlib.Omega.{arith}
 use denote.Ref.{now}
 use Rattle.messages.specs.declared.head.Head.the-variants as head
@@ -29,6 +29,7 @@ returns-2 c =
     record {
       says = λ d. rw (c .loop-number .ensures, c .before .u14-at2 .ensures, c .before .before .u14-at .ensures) (ap (plain-answer d head.LoopPointsRequest) (sym (loop-request-reads (now (s .args .f)) (s .pre) n)));
       part = omega (arith, n);
+      start = (refl, refl);
     }
 
 pub loop-request-spec : {M : Type 1} → statement M
