@@ -17,8 +17,7 @@ use Rattle.reading.proofs.Laws.Answers.{false-true}
 use Rattle.reader.specs.declared.lent.Reading.{Reading}
 use Rattle.reader.specs.declared.lent.Reading.the-variants as reading
 use Rattle.reader.specs.declared.opening.Opening.the-variants as opening
-use Rattle.reader.specs.Opening.{opens-as, placed}
-use Rattle.reader.specs.Body.{inner}
+use Rattle.reader.specs.Opening.{inner, opens-as, placed}
 use Rattle.reader.specs.Reading.{ReadMet}
 use Rattle.reader.specs.Filled.{enough, Filled}
 use Rattle.reader.proofs.Laws.Fields.{lent-fields, read-right}

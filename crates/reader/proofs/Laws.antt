@@ -4,5 +4,6 @@ pub mod Brief
 pub mod Shape
 pub mod Apart
 pub mod Lent
+pub mod Texts
 pub mod Met
 pub mod Fields

@@ -1,5 +1,4 @@
 pub mod Opening
-pub mod Body
 pub mod Reading
 pub mod Filled
 pub mod Promises

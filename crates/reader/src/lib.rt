@@ -1,22 +1,22 @@
 // Reads a frame: what it is, without writing; then its file data and entries into lent space.
-pub mod body;
 pub mod lent;
 pub mod opening;
 mod test;
 
-use body::Body;
 use lent::Reading;
 use messages::file_reference::Kind;
+use messages::head::Head;
 use opening::Opening;
+use reading::Found;
 use util::refusal::Refusal;
 ghost use mathlib.Core.Path.{_≡_};
 ghost use mathlib.Core.Option.{some};
 ghost use lib.ListN.{take, drop, getD};
 ghost use Rattle.messages.specs.Messages.{readOf, inside};
 ghost use Rattle.messages.specs.Walk.{is-frame};
-ghost use Rattle.reader.specs.Opening.{Opens};
-ghost use Rattle.reader.specs.Body.{Tells, inner};
-ghost use Rattle.reader.specs.Reading.{ReadMet};
+ghost use Rattle.reader.specs.declared.opening.Opening.the-variants as opening;
+ghost use Rattle.reader.specs.Opening.{inner, opens-as, placed, Opens};
+ghost use Rattle.reader.specs.Reading.{Tells, ReadMet};
 
 // The opening of a frame of the right shape, for a kind of sound file.
 fn opening_shaped(frame: &[u8], kind: Kind) -> Opening
@@ -48,13 +48,45 @@ pub fn opening_in(frame: &[u8], kind: Kind) -> Opening
     }
 }
 
-// What a frame is, for a kind of sound file; nothing is written.
-pub fn examine(frame: &[u8], kind: Kind) -> Body
-    ensures { λ r. ⌜ Tells r (inner (now (frame .entry))) (readOf kind (now (frame .entry))) ⌝ }
+// What the fields of a frame say under a head, with whether its checksum is right.
+fn examine_part(frame: &[u8], h: Head, start: usize, end: usize, sum: bool) -> Reading
+    requires { ⌜ placed (opening.Fields h start end sum) (inner (now frame)) ⌝ }
+    ensures { λ r. ⌜ Tells r (opens-as (opening.Fields h start end sum) (inner (now (frame .entry)))) (now (frame .entry)) ⌝ }
+{
+    let a = 1 + start;
+    let e = 1 + end;
+    let device = reading::device_of(util::groups::at(frame, 2));
+    match read_fields::fields_of(h, &frame[a..e]) {
+        Found::Is {
+            m,
+            from,
+            len,
+            at: _,
+            count,
+        } => {
+            if sum {
+                Reading::Frame {
+                    device,
+                    m,
+                    from: lent::text_start(frame, a, from),
+                    len,
+                    places: count,
+                }
+            } else {
+                Reading::Refused(Refusal::Sum)
+            }
+        }
+        Found::Nothing => Reading::Refused(Refusal::Field),
+    }
+}
+
+// What reading a frame for a kind of sound file would answer with as many lent places as it takes; nothing is written.
+pub fn examine(frame: &[u8], kind: Kind) -> Reading
+    ensures { λ r. ⌜ Tells r (readOf kind (now (frame .entry))) (now (frame .entry)) ⌝ }
 {
     match opening_in(frame, kind) {
-        Opening::Fields { h, start, end, sum } => body::body_of(frame, h, start, end, sum),
-        Opening::Refused(n) => Body::Refused(n),
+        Opening::Fields { h, start, end, sum } => examine_part(frame, h, start, end, sum),
+        Opening::Refused(n) => Reading::Refused(n),
     }
 }
 
@@ -72,8 +104,8 @@ pub fn is_frame(stretch: &[u8], kind: Kind) -> bool
     ensures { λ r. ⌜ r ≡ is-frame kind (now (stretch .entry)) ⌝ }
 {
     match examine(stretch, kind) {
-        Body::Is { .. } => true,
-        Body::Refused(_) => false,
+        Reading::Frame { .. } => true,
+        Reading::Refused(_) => false,
     }
 }
 

@@ -4,8 +4,7 @@ use mathlib.Core.Path.{sym, subst}
 use denote.Ref.{now}
 use Rattle.messages.specs.declared.head.Head.{Head}
 use Rattle.reader.specs.declared.opening.Opening.the-variants as opening
-use Rattle.reader.specs.Opening.{opens-as}
-use Rattle.reader.specs.Body.{inner}
+use Rattle.reader.specs.Opening.{inner, opens-as}
 use Rattle.read_numbers.specs.Plain.{ReadPlain}
 use borrow.Author.Needs.{needs}
 use Rattle.read_numbers.proofs.put_plain.Statement.{statement}

@@ -6,8 +6,7 @@ use Rattle.messages.specs.Messages.{readOf}
 use Rattle.reader.specs.declared.lent.Reading.the-variants as reading
 use Rattle.reader.specs.declared.opening.Opening.{Opening}
 use Rattle.reader.specs.declared.opening.Opening.the-variants as opening
-use Rattle.reader.specs.Opening.{Opens}
-use Rattle.reader.specs.Body.{inner}
+use Rattle.reader.specs.Opening.{inner, Opens}
 use Rattle.reader.proofs.Laws.Met.{read-refused}
 use Rattle.read_numbers.proofs.Plain.{read-to}
 use borrow.Author.Needs.{needs}

@@ -1,13 +1,13 @@
--- Reading with lent space: the numbers of an answer, the frame and the lent space say the message.
+-- The numbers of an answer, with the frame and what lent space holds, say the message, and are those that the message has.
 -- Assumes nothing.
-use mathlib.Core.Path.{_≡_, refl, sym, ap, ap₂, _∙_}
+use mathlib.Core.Path.{_≡_, refl, sym, ap, ap₂, subst, _∙_}
 use mathlib.Core.Bool.{Bool, true, false, _&&_}
 use mathlib.Core.List.{List, [], _∷_, _++_}
 use Prim.Native.Nat.{ℕ, zero, suc, _+_, _-_, _≤_, _<_}
 use native.Mathlib.Omega.{arith}
 use lib.Dec.{leb}
 use lib.ListN.{length, take, drop, length-take, length-drop}
-use lib.Seq.{take-take, drop-drop, take-at}
+use lib.Seq.{take-take, take-all, drop-drop, take-at}
 use borrow.Author.Tests.{le-leb, lt-leb}
 use Rattle.util.specs.Groups.{Seven}
 use Rattle.util.specs.Pick.{pick}
@@ -17,15 +17,14 @@ use Rattle.util.specs.declared.refusal.Refusal.the-variants.{Hold}
 use Rattle.messages.specs.declared.«system_exclusive».DeviceID.{DeviceID}
 use Rattle.messages.specs.declared.«system_exclusive».UniversalNonRealTimeMsg.{UniversalNonRealTimeMsg}
 use Rattle.messages.specs.Layouts.{Fields}
-use Rattle.messages.specs.Messages.{Message, make, Answer, refused, given, holding, held-unless}
+use Rattle.messages.specs.Messages.{Message, make, Answer, refused, given, text, text-start, file-data, entries, places, holding, held-unless}
 use Rattle.messages.specs.MessageOf.{messageOf, headOf, fieldsOf}
 use Rattle.reading.specs.Places.{data-at}
 use Rattle.reading.specs.Found.{data-of, entries-of, text-in}
 use Rattle.reader.specs.declared.lent.Reading.{Reading}
 use Rattle.reader.specs.declared.lent.Reading.the-variants as reading
-use Rattle.reader.specs.Opening.{fields-in}
-use Rattle.reader.specs.Body.{inner}
-use Rattle.reader.specs.Reading.{data-after, entries-after, said, ReadMet, has-data}
+use Rattle.reader.specs.Opening.{inner, fields-in}
+use Rattle.reader.specs.Reading.{said, numbers-in, numbers-for, data-given, entries-given, Tells, data-after, entries-after, ReadMet, has-data}
 use Rattle.reader.specs.Filled.{enough, Filled}
 use Rattle.reader.proofs.Laws.Apart.{data-is-at, no-entries, no-data, text-is-data, text-is-part, entries-free}
 use Rattle.reader.proofs.Laws.Lent.{lent-entries, lent-data}
@@ -135,47 +134,71 @@ module _ (m : UniversalNonRealTimeMsg) (f : List ℕ) (i n : ℕ) (size : length
 
 -- ---- the whole: what the fields say is the message that is read, and lent space has its file data and entries
 
-module _ (r : Reading) (d : DeviceID) (m : UniversalNonRealTimeMsg) (from len i n : ℕ) (frame f part : List ℕ) (s : Seven f)
+module _ (d : DeviceID) (m : UniversalNonRealTimeMsg) (from len i n : ℕ) (frame f part : List ℕ) (s : Seven f)
     (size : length (data-of m f i) + length (entries-of m f i n) ≡ n) (p : take len (drop from frame) ≡ part) where
   abbrev M : Message
   M = messageOf d m (text-in m part (data-of m f i)) (entries-of m f i n)
 
-  abbrev held : Bool → Answer Message
-  held t = held-unless t M
+  own-data : file-data M ≡ data-of m f i
+  own-data = lent-data m f i part (entries-of m f i n)
 
-  holds-as : (dat es : List ℕ) → held (enough m f i n dat es) ≡ holding (length dat) (length es) (given M)
-  holds-as dat es =
-      ap₂ (λ (x y : List ℕ). held-unless (leb (length x) (length dat) && leb (length y) (length es)) M)
-      (sym (lent-data m f i part (entries-of m f i n))) (sym (lent-entries f s i n m (text-in m part (data-of m f i))))
+  own-entries : entries M ≡ entries-of m f i n
+  own-entries = lent-entries f s i n m (text-in m part (data-of m f i))
 
-  met : (t : Bool) (dat dat′ es es′ : List ℕ)
-      → r ≡ pick t (reading.Frame d m from len n) (reading.Refused Hold)
-      → dat′ ≡ pick t (front (data-of m f i) dat) dat → es′ ≡ pick t (front (entries-of m f i n) es) es
-      → (said r frame dat′ es′ ≡ held t) × (dat′ ≡ data-after (held t) dat) × (es′ ≡ entries-after (held t) es)
-  met false dat dat′ es es′ e x y = (ap (λ (q : Reading). said q frame dat′ es′) e, x, y)
-  met true dat dat′ es es′ e x y = (
-    ap (λ (q : Reading). said q frame dat′ es′) e
-        ∙ ap₂ (λ (u v : List ℕ). said (reading.Frame d m from len n) frame u v) x y
-        ∙ ap (λ (u : List ℕ). given (messageOf d m (text-in m u (take n (front (data-of m f i) dat))) (take n (front (entries-of m f i n) es)))) p
-        ∙ ap (λ (u : Fields (headOf m)). given (make d (headOf m) u)) (fields-said m f i n size part dat es),
-    x ∙ ap (λ (u : List ℕ). front u dat) (sym (lent-data m f i part (entries-of m f i n))),
-    y ∙ ap (λ (u : List ℕ). front u es) (sym (lent-entries f s i n m (text-in m part (data-of m f i)))),
-  )
+  module _ (starts : from ≡ text-start M) (long : len ≡ length (text M)) where
+    numbers-same : from ∷ len ∷ n ∷ [] ≡ numbers-for (given M)
+    numbers-same =
+        let e : n ≡ places M = omega (arith, size, ap length own-data, ap length own-entries) in
+        ap₂ (λ (a b : ℕ). a ∷ b ∷ n ∷ []) starts long ∙ ap (λ (c : ℕ). text-start M ∷ length (text M) ∷ c ∷ []) e
 
-  pub read-met : (a : Answer Message) (dat dat′ es es′ : List ℕ) → given M ≡ a → Filled r d m from len i n f dat dat′ es es′ → ReadMet r a frame dat dat′ es es′
-  read-met a dat dat′ es es′ e w =
-      let g = met (enough m f i n dat es) dat dat′ es es′ (w .says) (w .data-is) (w .entries-are) in
-      let h : held (enough m f i n dat es) ≡ holding (length dat) (length es) a = holds-as dat es ∙ ap (holding (length dat) (length es)) e in
-      record {
-        says = g .0 ∙ h;
-        data-is = g .1 ∙ ap (λ (q : Answer Message). data-after q dat) h;
-        entries-are = g .2 ∙ ap (λ (q : Answer Message). entries-after q es) h;
-      }
+    -- with no lent space
+    pub told : (a : Answer Message) → given M ≡ a → Tells (reading.Frame d m from len n) a frame
+    told a e =
+        subst (λ (a : Answer Message). Tells (reading.Frame d m from len n) a frame) e
+        (record {
+          says = ap₂ (λ (x y : List ℕ). given (messageOf d m (text-in m (take len (drop from frame)) (take n x)) (take n y))) own-data own-entries
+              ∙ ap₂ (λ (x y : List ℕ). given (messageOf d m (text-in m (take len (drop from frame)) x) y))
+              (take-all n (data-of m f i) (omega (arith, size))) (take-all n (entries-of m f i n) (omega (arith, size)))
+              ∙ ap (λ (x : List ℕ). given (messageOf d m (text-in m x (data-of m f i)) (entries-of m f i n))) p;
+          numbers-are = numbers-same;
+        })
+
+    module _ (r : Reading) where
+      abbrev held : Bool → Answer Message
+      held t = held-unless t M
+
+      holds-as : (dat es : List ℕ) → held (enough m f i n dat es) ≡ holding (length dat) (length es) (given M)
+      holds-as dat es = ap₂ (λ (x y : List ℕ). held-unless (leb (length x) (length dat) && leb (length y) (length es)) M) (sym own-data) (sym own-entries)
+
+      abbrev Meets : Answer Message → List ℕ → List ℕ → List ℕ → List ℕ → Type 0
+      Meets a dat dat′ es es′ = (said r frame dat′ es′ ≡ a) × (numbers-in r ≡ numbers-for a) × (dat′ ≡ data-after a dat) × (es′ ≡ entries-after a es)
+
+      met : (t : Bool) (dat dat′ es es′ : List ℕ)
+          → r ≡ pick t (reading.Frame d m from len n) (reading.Refused Hold)
+          → dat′ ≡ pick t (front (data-of m f i) dat) dat → es′ ≡ pick t (front (entries-of m f i n) es) es
+          → Meets (held t) dat dat′ es es′
+      met false dat dat′ es es′ e x y = (ap (λ (q : Reading). said q frame dat′ es′) e, ap numbers-in e, x, y)
+      met true dat dat′ es es′ e x y = (
+        ap (λ (q : Reading). said q frame dat′ es′) e
+            ∙ ap₂ (λ (u v : List ℕ). said (reading.Frame d m from len n) frame u v) x y
+            ∙ ap (λ (u : List ℕ). given (messageOf d m (text-in m u (take n (front (data-of m f i) dat))) (take n (front (entries-of m f i n) es)))) p
+            ∙ ap (λ (u : Fields (headOf m)). given (make d (headOf m) u)) (fields-said m f i n size part dat es),
+        ap numbers-in e ∙ numbers-same,
+        x ∙ ap (λ (u : List ℕ). front u dat) (sym own-data),
+        y ∙ ap (λ (u : List ℕ). front u es) (sym own-entries),
+      )
+
+      pub read-met : (a : Answer Message) (dat dat′ es es′ : List ℕ) → given M ≡ a → Filled r d m from len i n f dat dat′ es es′ → ReadMet r a frame dat dat′ es es′
+      read-met a dat dat′ es es′ e w =
+          let g = met (enough m f i n dat es) dat dat′ es es′ (w .says) (w .data-is) (w .entries-are) in
+          let h : held (enough m f i n dat es) ≡ holding (length dat) (length es) a = holds-as dat es ∙ ap (holding (length dat) (length es)) e in
+          let k = subst (λ (q : Answer Message). Meets q dat dat′ es es′) h g in
+          record { says = k .0; numbers-are = k .1; data-is = k .2; entries-are = k .3 }
+
+pub told-refused : (n : Refusal) (a : Answer Message) (frame : List ℕ) → refused n ≡ a → Tells (reading.Refused n) a frame
+told-refused n a frame e = subst (λ (q : Answer Message). Tells (reading.Refused n) q frame) e (record { says = refl; numbers-are = refl })
 
 pub read-refused : (n : Refusal) (a : Answer Message) (frame dat es : List ℕ) → refused n ≡ a → ReadMet (reading.Refused n) a frame dat dat es es
 read-refused n a frame dat es e =
-    record {
-      says = ap (holding (length dat) (length es)) e;
-      data-is = ap (λ (q : Answer Message). data-after (holding (length dat) (length es) q) dat) e;
-      entries-are = ap (λ (q : Answer Message). entries-after (holding (length dat) (length es) q) es) e;
-    }
+    subst (λ (q : Answer Message). ReadMet (reading.Refused n) q frame dat dat es es) e
+    (record { says = refl; numbers-are = refl; data-is = refl; entries-are = refl })

@@ -16,7 +16,7 @@ use Rattle.messages.specs.declared.«file_reference».Kind.{Kind}
 use Rattle.messages.specs.Messages.{Message, Answer, given, inside, read-inside, readOf}
 use Rattle.messages.specs.Walk.{is-given, is-frame}
 use Rattle.messages.proofs.Exact.{inside-back, inside-shaped, refused-given}
-use Rattle.reader.specs.Body.{inner}
+use Rattle.reader.specs.Opening.{inner}
 
 pub short-none : (l : List ℕ) → length l < 6 → inside l ≡ none
 short-none l h = rw (lt-leb 6 (length l) h)

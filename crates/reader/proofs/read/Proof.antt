@@ -9,8 +9,7 @@ use Rattle.messages.specs.declared.head.Head.{Head}
 use Rattle.messages.specs.Messages.{Answer, Message, readOf}
 use Rattle.reader.specs.declared.opening.Opening.{Opening}
 use Rattle.reader.specs.declared.opening.Opening.the-variants as opening
-use Rattle.reader.specs.Opening.{Opens}
-use Rattle.reader.specs.Body.{inner}
+use Rattle.reader.specs.Opening.{inner, Opens}
 use Rattle.reader.specs.Reading.{ReadMet}
 use Rattle.reader.proofs.Laws.Met.{read-refused}
 use borrow.Author.Needs.{needs}
