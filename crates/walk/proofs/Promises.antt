@@ -19,11 +19,11 @@ use Rattle.messages.proofs.Walk.{bool-cases, listed-exactly, listed-rising, sam
 use Rattle.reader.specs.declared.lent.Reading.{Reading}
 use Rattle.reader.specs.Reading.{said, data-after, entries-after}
 use Rattle.reader.specs.Promises.{Read}
-use Rattle.reader.proofs.Promises.{gives-exactly}
+use Rattle.reader.proofs.Promises.{gives-exactly, same-answer}
 use Rattle.walk.specs.declared.Walked.{Walked}
 use Rattle.walk.specs.declared.Walked.the-variants.{Frames, Refused}
 use Rattle.walk.specs.Answer.{walked-number, walked-value, flat, pairs, how-many, WalkMet}
-use Rattle.walk.specs.Promises.{Walk, listed, stretch, ListsExactly, ListsRising, ReadsListed, Agree, SamePairs, SamePut, SameReadings, StreamExactly, IndexExactly, CountsFrames, RefusedKept, RestKept}
+use Rattle.walk.specs.Promises.{Walk, listed, stretch, ListsExactly, ListsRising, ReadsListed, Agree, SamePairs, SameReadings, StreamExactly, IndexExactly, CountsFrames, RefusedKept, RestKept, OneWalk}
 use Rattle.walk.proofs.Laws.Index.{pairs-flat, front-rest}
 use Rattle.walk.proofs.Laws.Answers.{too-long, too-many, enough}
 
@@ -74,24 +74,10 @@ same-pairs k w v s t ix ix′ iy iy′ a b c d g =
 same-stretch : (s t : List ℕ) (a b o l : ℕ) → Agree s t a b → stretch s (a + o) l ≡ stretch t (b + o) l
 same-stretch s t a b o l g = ap (take l) (sym (drop-drop o a s) ∙ ap (drop o) (g .same) ∙ drop-drop o b t)
 
-data-put : (x : Answer Message) (d d′ e e′ : List ℕ) → d′ ≡ data-after x d → e′ ≡ data-after x e → SamePut d d′ e e′
-data-put (refused r) d d′ e e′ p q = record { put = []; first = p; second = q }
-data-put (given m) d d′ e e′ p q = record { put = file-data m; first = p; second = q }
-
-entries-put : (x : Answer Message) (d d′ e e′ : List ℕ) → d′ ≡ entries-after x d → e′ ≡ entries-after x e → SamePut d d′ e e′
-entries-put (refused r) d d′ e e′ p q = record { put = []; first = p; second = q }
-entries-put (given m) d d′ e e′ p q = record { put = entries m; first = p; second = q }
-
 pub same-readings : SameReadings
 same-readings k s t a b o l p q dat dat′ es es′ dau dau′ et et′ g c d hd he =
-    let x : Answer Message = holding (length dat) (length es) (readOf k (stretch s (a + o) l)) in
-    let y : holding (length dau) (length et) (readOf k (stretch t (b + o) l)) ≡ x =
-    ap₂ (λ (m : ℕ) (n : ℕ). holding m n (readOf k (stretch t (b + o) l))) (sym hd) (sym he)
-    ∙ ap (λ (f : List ℕ). holding (length dat) (length es) (readOf k f)) (sym (same-stretch s t a b o l g)) in (
-      c .says ∙ sym (d .says ∙ y),
-      data-put x dat dat′ dau dau′ (c .data-is) (d .data-is ∙ ap (λ (z : Answer Message). data-after z dau) y),
-      entries-put x es es′ et et′ (c .entries-are) (d .entries-are ∙ ap (λ (z : Answer Message). entries-after z et) y),
-    )
+    same-answer k p q (stretch s (a + o) l) dat dat′ dau dau′ es es′ et et′ c
+    (subst (λ (f : List ℕ). Read k q f dau dau′ et et′) (sym (same-stretch s t a b o l g)) d) hd he
 
 -- ---- rows 11 and 12
 
@@ -156,3 +142,8 @@ rest-kept k w s ix ix′ c =
     ∙ ap (drop (how-many k s * 2)) (walk-leaves k w s ix ix′ c)
     ∙ front-rest (frames k s) ix
     ∙ ap (λ (n : ℕ). drop (n * 2) ix) (sym a)
+
+-- ---- one answer
+
+pub one-walk : OneWalk
+one-walk k w v s ix ix′ ix″ c d = (c .says ∙ sym (d .says), c .index-is ∙ sym (d .index-is))

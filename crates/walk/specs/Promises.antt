@@ -4,14 +4,13 @@ use mathlib.Core.Logic.{_↔_, _⊎_}
 use mathlib.Core.List.{List}
 use Prim.Native.Nat.{ℕ, _+_, _*_, _/_, _≤_, _<_}
 use lib.ListN.{length, getD, take, drop}
-use Rattle.util.specs.Splice.{front}
 use Rattle.messages.specs.declared.«file_reference».Kind.{Kind}
 use Rattle.messages.specs.Messages.{Message, given, SettledFor}
 use Rattle.messages.specs.Promises.{IsFrame, IsFrameFor}
 use Rattle.messages.specs.Walk.{Stretch, Listed, Rising, since, frames}
 use Rattle.reader.specs.declared.lent.Reading.{Reading}
 use Rattle.reader.specs.Reading.{said}
-use Rattle.reader.specs.Promises.{Read, Enough}
+use Rattle.reader.specs.Promises.{Read, Enough, SamePut}
 use Rattle.walk.specs.declared.Walked.{Walked}
 use Rattle.walk.specs.Answer.{walked-number, walked-value, pairs, how-many, WalkMet}
 
@@ -75,19 +74,14 @@ SamePairs =
     (k : Kind) (w v : Walked) (s t ix ix′ iy iy′ : List ℕ) (a b : ℕ) → Walk k w s ix ix′ → Walk k v t iy iy′ → Agree s t a b
     → since a (listed w ix′) ≡ since b (listed v iy′)
 
--- the same was put at the start of two lent spaces, and the rest of each keeps its values
-pub record SamePut (x x′ y y′ : List ℕ) : Type 0 where
-  pub put : List ℕ
-  pub first : x′ ≡ front put x
-  pub second : y′ ≡ front put y
-
--- "Every stretch from there, listed or not, read for that kind with equal space, gets the same answer in both"; "equal space is of equal lengths"
+-- "Every stretch from there, listed or not, read for that kind with equal space, gets the same answer in both"; "equal space is of equal lengths".
+-- The same is put into the space of both
 abbrev pub SameReadings : Type 0
 SameReadings =
     (k : Kind) (s t : List ℕ) (a b o l : ℕ) (p q : Reading) (dat dat′ es es′ dau dau′ et et′ : List ℕ) → Agree s t a b
     → Read k p (stretch s (a + o) l) dat dat′ es es′ → Read k q (stretch t (b + o) l) dau dau′ et et′
     → length dat ≡ length dau → length es ≡ length et
-    → (said p (stretch s (a + o) l) dat′ es′ ≡ said q (stretch t (b + o) l) dau′ et′) × SamePut dat dat′ dau dau′ × SamePut es es′ et et′
+    → (p ≡ q) × SamePut dat dat′ dau dau′ × SamePut es es′ et et′
 
 -- ---- a stream in pieces
 
@@ -129,3 +123,10 @@ RefusedKept = (k : Kind) (w : Walked) (s ix ix′ : List ℕ) → WalkMet w k s 
 abbrev pub RestKept : Type 0
 RestKept =
     (k : Kind) (w : Walked) (s ix ix′ : List ℕ) → Walk k w s ix ix′ → drop (walked-value w * 2) ix′ ≡ drop (walked-value w * 2) ix
+
+-- ---- one answer
+
+-- a call of `walk` has one answer, and one way in which it leaves the index
+abbrev pub OneWalk : Type 0
+OneWalk =
+    (k : Kind) (w v : Walked) (s ix ix′ ix″ : List ℕ) → WalkMet w k s ix ix′ → WalkMet v k s ix ix″ → (w ≡ v) × (ix′ ≡ ix″)
