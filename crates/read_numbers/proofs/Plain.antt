@@ -18,10 +18,10 @@ use Rattle.reader.specs.declared.lent.Reading.{Reading}
 use Rattle.reader.specs.declared.lent.Reading.the-variants as reading
 use Rattle.reader.specs.declared.opening.Opening.the-variants as opening
 use Rattle.reader.specs.Opening.{inner, opens-as, placed}
-use Rattle.reader.specs.Reading.{ReadMet}
+use Rattle.reader.specs.Reading.{reading-number, ReadMet}
 use Rattle.reader.specs.Filled.{enough, Filled}
-use Rattle.reader.proofs.Laws.Fields.{lent-fields, read-right}
-use Rattle.read_numbers.specs.Read.{ReadTo, reading-number}
+use Rattle.reader.proofs.Laws.Fields.{lent-fields, begin, read-right}
+use Rattle.read_numbers.specs.Read.{ReadTo}
 use Rattle.read_numbers.specs.Plain.{ReadPlain, Numbered}
 
 no-elements : (l : List ℕ) → length l ≡ 0 → l ≡ []
@@ -43,12 +43,12 @@ filled d m from len i n f dat es s e =
 
 module _ (frame : List ℕ) (h : Head) (start end : ℕ) (sum : Bool) (p : placed (opening.Fields h start end sum) (inner frame)) where
   -- the fields are such a message
-  pub plain-met : {m : UniversalNonRealTimeMsg} {from len i n : ℕ} → Reads h (Is m from len i n) (lent-fields frame h start end sum p) → n ≡ 0 → sum ≡ true
-      → (d : DeviceID) → d ≡ device-of (getD frame 2 0) → (dat es : List ℕ)
-      → ReadMet (reading.Frame d m (1 + start + from) len 0) (opens-as (opening.Fields h start end sum) (inner frame)) frame dat dat es es
-  plain-met {m} {from} {len} {i} {n} w e t d q dat es =
-      read-right frame h start end sum p w (reading.Frame d m (1 + start + from) len 0) d q t dat dat es es
-      (filled d m (1 + start + from) len i n (lent-fields frame h start end sum p) dat es (w .part .3) e)
+  pub plain-met : {m : UniversalNonRealTimeMsg} {from len i n : ℕ} (w : Reads h (Is m from len i n) (lent-fields frame h start end sum p)) → n ≡ 0 → sum ≡ true
+      → (d : DeviceID) (b : ℕ) → d ≡ device-of (getD frame 2 0) → b ≡ begin frame h start end sum p w → (dat es : List ℕ)
+      → ReadMet (reading.Frame d m b len 0) (opens-as (opening.Fields h start end sum) (inner frame)) frame dat dat es es
+  plain-met {m} {from} {len} {i} {n} w e t d b q x dat es =
+      read-right frame h start end sum p w (reading.Frame d m b len 0) d b q t x dat dat es es
+      (filled d m b len i n (lent-fields frame h start end sum p) dat es (w .part .3) e)
 
 module _ (a : Answer Message) (frame answer answer′ : List ℕ) where
   -- its numbers were put, or they were not

@@ -6,8 +6,8 @@ use Prim.Native.Nat.{ℕ}
 use Rattle.util.specs.Splice.{front}
 use Rattle.messages.specs.Messages.{Message, Answer}
 use Rattle.reader.specs.declared.lent.Reading.{Reading}
-use Rattle.reader.specs.Reading.{ReadMet}
-use Rattle.read_numbers.specs.Read.{reading-number, reading-numbers}
+use Rattle.reader.specs.Reading.{reading-number, ReadMet}
+use Rattle.read_numbers.specs.Read.{reading-numbers}
 
 -- a message that is read whatever is lent, and its numbers at the start of the answer
 pub record ReadAny (a : Answer Message) (frame answer answer′ : List ℕ) : Type 0 where

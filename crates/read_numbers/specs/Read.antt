@@ -4,20 +4,14 @@ use mathlib.Core.List.{List, [], _∷_}
 use Prim.Native.Nat.{ℕ}
 use lib.ListN.{length}
 use Rattle.util.specs.Splice.{front}
-use Rattle.util.specs.Refusals.{number}
 use Rattle.messages.specs.declared.«file_reference».Kind.{Kind}
 use Rattle.messages.specs.Messages.{Message, Answer, readOf}
 use Rattle.reader.specs.declared.lent.Reading.{Reading}
 use Rattle.reader.specs.declared.lent.Reading.the-variants.{Frame, Refused}
-use Rattle.reader.specs.Reading.{ReadMet}
+use Rattle.reader.specs.Reading.{reading-number, ReadMet}
 use Rattle.to_numbers.specs.Numbers.{numbers-of}
 
--- the number of the refusal, 0 for none
-abbrev pub reading-number : Reading → ℕ
-reading-number (Frame d m from len places) = 0
-reading-number (Refused r) = number r
-
--- how many numbers the message has, the start and length of its part of the frame, its lent places, then the message's numbers
+-- how many numbers the message has, the start and length of its name, URL or sample bytes in the frame, its lent places, then its numbers
 abbrev pub reading-numbers : Reading → List ℕ
 reading-numbers (Frame d m from len places) = length (numbers-of d m) ∷ from ∷ len ∷ places ∷ numbers-of d m
 reading-numbers (Refused r) = []

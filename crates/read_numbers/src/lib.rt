@@ -5,6 +5,7 @@ use messages::system_exclusive::DeviceID;
 use messages::system_exclusive::UniversalNonRealTimeMsg;
 use read_sample_dump::sample_dump::header;
 use reader::lent::Reading;
+use reader::lent::text_start;
 use reader::opening::Opening;
 use reading::Found;
 use reading::device_of;
@@ -49,11 +50,11 @@ fn put_reading(
 // Puts the numbers of a handshake, its head code, device and packet, at the start of the answer.
 fn put_numbered(answer: &mut [u64], code: u64, device: u8, packet: u8)
     requires { ⌜ 20 ≤ length (now answer) ⌝ }
-    ensures { λ _. ⌜ now (answer .exit) ≡ front (3 ∷ 4 ∷ 0 ∷ 0 ∷ code ∷ device-number-of (device-of device) ∷ packet ∷ []) (now (answer .entry)) ⌝ }
+    ensures { λ _. ⌜ now (answer .exit) ≡ front (3 ∷ 0 ∷ 0 ∷ 0 ∷ code ∷ device-number-of (device-of device) ∷ packet ∷ []) (now (answer .entry)) ⌝ }
 {
     let d = device_number(device_of(device));
     answer[0] = 3;
-    answer[1] = 4;
+    answer[1] = 0;
     answer[2] = 0;
     answer[3] = 0;
     answer[4] = code;
@@ -150,7 +151,8 @@ fn put_header(frame: &[u8], start: usize, end: usize, sum: bool, answer: &mut [u
             }
             if sum {
                 let device = device_of(at(frame, 2));
-                put_sample(answer, device, m, a + from, len)
+                let begin = text_start(frame, a, from);
+                put_sample(answer, device, m, begin, len)
             } else {
                 false
             }

@@ -10,7 +10,7 @@ use Rattle.messages.specs.Fields.{device-of}
 use Rattle.reading.specs.declared.Found.{Found}
 use Rattle.reading.specs.declared.Found.the-variants.{Is}
 use Rattle.reading.specs.Found.{Reads}
-use Rattle.reader.proofs.Laws.Fields.{lent-fields, long-enough, fields-seven, fields-in-frame}
+use Rattle.reader.proofs.Laws.Fields.{lent-fields, long-enough, fields-seven, text-in-frame}
 use Rattle.read_numbers.proofs.Plain.{plain-met, plain-put}
 use borrow.Author.Needs.{needs}
 use Rattle.read_numbers.proofs.put_header.Statement.{statement}
@@ -56,11 +56,11 @@ at-requires c κs = search needs
 device-of-requires : tie.Need-device-of-requires
 device-of-requires c κs = search needs
 
-add-put-sample : tie.Need-add-put-sample
-add-put-sample c = let v = c .before .before .before .before .before .before in
+text-start-requires : tie.Need-text-start-requires
+text-start-requires c κs = let v = c .before .before .before .before .before in
     let s = st v in
     let a = s .args in
-    omega (arith, long-enough (now (a .frame)) head.SampleDumpHeader (a .start) (a .end) (a .sum) (s .pre .1), s .good .0, fields-in-frame (now (a .frame)) head.SampleDumpHeader (a .start) (a .end) (a .sum) (s .pre .1) (reads v))
+    text-in-frame (now (a .frame)) head.SampleDumpHeader (a .start) (a .end) (a .sum) (s .pre .1) (reads v)
 
 put-sample-requires : tie.Need-put-sample-requires
 put-sample-requires c κs = search needs
@@ -73,13 +73,15 @@ same-length c = search needs
 
 returns-2 : tie.Need-returns-2
 returns-2 c = let p = c .before .before in
-    let d = p .before .before in
+    let b = p .before .before in
+    let d = b .before in
     let i = d .before .before in
     let v = i .before .before .before in
     let s = st v in
     let a = s .args in
     plain-put _ (now (a .frame)) (now (a .answer)) _ (p .put-sample .result) _ (p .put-sample .ensures) refl
-    (plain-met (now (a .frame)) head.SampleDumpHeader (a .start) (a .end) (a .sum) (s .pre .1) (reads v) (i .before .if1 .left) (i .if2 .taken) (d .device-of .result) (d .device-of .ensures ∙ ap device-of (d .before .at .ensures)))
+    (plain-met (now (a .frame)) head.SampleDumpHeader (a .start) (a .end) (a .sum) (s .pre .1) (reads v) (i .before .if1 .left) (i .if2 .taken) (d .device-of .result) (b .text-start .result)
+    (d .device-of .ensures ∙ ap device-of (d .before .at .ensures)) (b .text-start .ensures))
 
 returns-3 : tie.Need-returns-3
 returns-3 c = search needs
@@ -101,7 +103,7 @@ put-header-spec =
     returns
     at-requires
     device-of-requires
-    add-put-sample
+    text-start-requires
     put-sample-requires
     enum-told
     same-length

@@ -46,8 +46,8 @@ same-length c = search needs
 returns : tie.Need-returns
 returns c = let s = c .before .before .before in
     let l = now (s .args .answer) in
-    sets-front (3 ∷ 4 ∷ 0 ∷ 0 ∷ s .args .code ∷ c .device-number .result ∷ s .args .packet ∷ []) l (omega (arith, s .pre))
-    ∙ ap (λ (v : ℕ). front (3 ∷ 4 ∷ 0 ∷ 0 ∷ s .args .code ∷ v ∷ s .args .packet ∷ []) l) (c .device-number .ensures ∙ ap device-number-of (c .before .device-of .ensures))
+    sets-front (3 ∷ 0 ∷ 0 ∷ 0 ∷ s .args .code ∷ c .device-number .result ∷ s .args .packet ∷ []) l (omega (arith, s .pre))
+    ∙ ap (λ (v : ℕ). front (3 ∷ 0 ∷ 0 ∷ 0 ∷ s .args .code ∷ v ∷ s .args .packet ∷ []) l) (c .device-number .ensures ∙ ap device-number-of (c .before .device-of .ensures))
 
 pub put-numbered-spec : {M : Type 1} → statement M
 put-numbered-spec =

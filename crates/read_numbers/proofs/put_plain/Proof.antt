@@ -4,7 +4,7 @@ use mathlib.Core.Path.{sym, subst}
 use denote.Ref.{now}
 use Rattle.messages.specs.declared.head.Head.{Head}
 use Rattle.reader.specs.declared.opening.Opening.the-variants as opening
-use Rattle.reader.specs.Opening.{inner, opens-as}
+use Rattle.reader.specs.Opening.{inner, opens-as, placed}
 use Rattle.read_numbers.specs.Plain.{ReadPlain}
 use borrow.Author.Needs.{needs}
 use Rattle.read_numbers.proofs.put_plain.Statement.{statement}
@@ -14,7 +14,11 @@ enum-told : tie.Need-enum-told
 enum-told c = search needs
 
 put-header-requires : tie.Need-put-header-requires
-put-header-requires c κs = search needs
+put-header-requires c κs = let s = c .before .before .before .before .before in
+    let a = s .args in (
+      s .pre .0,
+      subst (λ (h : Head). placed (opening.Fields h (a .start) (a .end) (a .sum)) (inner (now (a .frame)))) (c .before .enum-told .given .1) (s .pre .1),
+    )
 
 same-length : tie.Need-same-length
 same-length c = search needs
