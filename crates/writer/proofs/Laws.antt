@@ -8,3 +8,4 @@ pub mod Whole
 pub mod Lengths
 pub mod Answers
 pub mod Handshakes
+pub mod Early

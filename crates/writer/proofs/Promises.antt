@@ -1,6 +1,7 @@
--- What writing promises: the frame stands at the place and reads back, a refusal leaves the output as it was, and SPACE is told exactly.
+-- What writing promises: the frame stands at the place and reads back, a refusal leaves the output as it was, and each number is given exactly.
 -- Assumes nothing.
-use mathlib.Core.Path.{_≡_, refl, sym, ap, _∙_}
+use mathlib.Core.Path.{_≡_, refl, sym, ap, subst, _∙_}
+use mathlib.Core.Logic.{_↔_}
 use mathlib.Core.Bool.{Bool, true, false}
 use mathlib.Core.List.{List, _++_}
 use Prim.Native.Nat.{ℕ, _+_, _-_, _≤_, _<_}
@@ -10,15 +11,19 @@ use lib.ListN.{length, take, drop}
 use lib.Seq.{take-at, drop-at, drop-drop, length-take-le}
 use borrow.Author.Tests.{leb-true, leb-false}
 use Rattle.util.specs.Pick.{pick}
+use Rattle.util.specs.Refusals.{number}
 use Rattle.util.specs.Splice.{splice}
+use Rattle.util.proofs.Laws.Refusals.{number-some}
 use Rattle.util.proofs.Laws.Splice.{length-splice}
-use Rattle.util.specs.declared.refusal.Refusal.{Refusal}
 use Rattle.util.specs.declared.refusal.Refusal.the-variants.{Space}
-use Rattle.messages.specs.Messages.{Answer, refused, given, writeOf}
+use Rattle.messages.specs.Messages.{Message, Answer, refused, given, answer-number, writeOf}
+use Rattle.messages.specs.Contents.{contents}
+use Rattle.messages.proofs.Contents.{refused-exactly}
 use Rattle.messages.proofs.Exact.{writes-settled, written-reads}
+use Rattle.writer.proofs.Laws.Early.{early}
 use Rattle.writer.specs.declared.Written.the-variants.{Frame, Refused}
-use Rattle.writer.specs.Write.{has-room, written-at, output-after}
-use Rattle.writer.specs.Promises.{WritesPlaced, RefusesUnchanged, SpaceExactly}
+use Rattle.writer.specs.Write.{written-number, written-value, has-room, written-at, output-after, length-number, length-value, length-at}
+use Rattle.writer.specs.Promises.{Placed, value-at, WritesPlaced, RefusesUnchanged, ContentsExactly, SpaceExactly, LengthTold}
 
 -- ---- a splice: what stands before it, in it and after it
 
@@ -72,29 +77,55 @@ room-not size place n h = not-true (has-room size place n) (λ t. let p = room-f
 
 -- ---- the answers
 
-frame-picked : (t : Bool) (k n : ℕ) {C : Type 0} → pick t (Frame k) (Refused Space) ≡ Frame n → (t ≡ true → k ≡ n → C) → C
-frame-picked true k n e f = f refl (cc)
-frame-picked false k n e f = absurd (let z : _≡_ {A = ℕ} 0 1 = cc in omega arith)
+module _ (size place : ℕ) where
+  space-by : (t : Bool) (n : ℕ) → written-number (pick t (Frame n) (Refused Space)) ≡ 5 → t ≡ false
+  space-by true n e = absurd (omega arith)
+  space-by false n e = refl
 
-space-picked : (t : Bool) (k : ℕ) (r : Refusal) {C : Type 0} → pick t (Frame k) (Refused Space) ≡ Refused r → (t ≡ false → C) → C
-space-picked true k r e f = absurd (let z : _≡_ {A = ℕ} 0 1 = cc in omega arith)
-space-picked false k r e f = f refl
+  zero-by : (t : Bool) (n : ℕ) → written-number (pick t (Frame n) (Refused Space)) ≡ 0 → t ≡ true
+  zero-by true n e = refl
+  zero-by false n e = absurd (omega arith)
 
-answer-frame : (w : Answer (List ℕ)) (size place n : ℕ) {C : Type 0} → written-at w size place ≡ Frame n
-    → ((bs : List ℕ) → w ≡ given bs → has-room size place (length bs) ≡ true → length bs ≡ n → C) → C
-answer-frame (refused r) size place n e k = absurd (let z : _≡_ {A = ℕ} 0 1 = cc in omega arith)
-answer-frame (given bs) size place n e k = frame-picked (has-room size place (length bs)) (length bs) n e (k bs refl)
+  early-not : (t : Bool) (n k : ℕ) → 1 ≤ k → k ≤ 4 → written-number (pick t (Frame n) (Refused Space)) ≡ k → ⊥
+  early-not true n k a b e = omega arith
+  early-not false n k a b e = omega arith
 
-refused-same : (w : Answer (List ℕ)) (out : List ℕ) (place : ℕ) (r : Refusal) → written-at w (length out) place ≡ Refused r → output-after w out place ≡ out
-refused-same (refused s) out place r e = refl
-refused-same (given bs) out place r e =
-    space-picked (has-room (length out) place (length bs)) (length bs) r e λ t. rw t
+  -- the number is that of the contents, where these are refused
+  contents-by : (a : Answer (List ℕ)) (k : ℕ) → 1 ≤ k → k ≤ 4 → (written-number (written-at a size place) ≡ k) ↔ (answer-number a ≡ k)
+  contents-by (refused r) k p q = (λ e. e, λ e. e)
+  contents-by (given bs) k p q = (
+    λ e. absurd (early-not (has-room size place (length bs)) (length bs) k p q e),
+    λ e. absurd (omega arith),
+  )
+
+  space-of : (a : Answer (List ℕ)) → answer-number a ≤ 4 → written-number (written-at a size place) ≡ 5 → (bs : List ℕ) × ((a ≡ given bs) × (size < place + length bs))
+  space-of (refused r) h e = absurd (omega arith)
+  space-of (given bs) h e = (bs, (refl, room-lacks size place (length bs) (space-by (has-room size place (length bs)) (length bs) e)))
+
+  written-of : (a : Answer (List ℕ)) → written-number (written-at a size place) ≡ 0
+      → (bs : List ℕ) × ((a ≡ given bs) × ((has-room size place (length bs) ≡ true) × (length bs ≡ written-value (written-at a size place))))
+  written-of (refused r) e = absurd (omega (arith, number-some r))
+  written-of (given bs) e = let t = zero-by (has-room size place (length bs)) (length bs) e in (bs, (refl, (t, rw t)))
+
+unchanged-by : (t : Bool) (n : ℕ) (x out : List ℕ) → (written-number (pick t (Frame n) (Refused Space)) ≡ 0 → ⊥)
+    → (written-value (pick t (Frame n) (Refused Space)) ≡ 0) × (pick t x out ≡ out)
+unchanged-by true n x out k = absurd (k refl)
+unchanged-by false n x out k = (refl, refl)
+
+unchanged : (a : Answer (List ℕ)) (out : List ℕ) (place : ℕ) → (written-number (written-at a (length out) place) ≡ 0 → ⊥)
+    → (written-value (written-at a (length out) place) ≡ 0) × (output-after a out place ≡ out)
+unchanged (refused r) out place k = (refl, refl)
+unchanged (given bs) out place k = unchanged-by (has-room (length out) place (length bs)) (length bs) (splice out place bs) out k
+
+length-told-number : (a : Answer (List ℕ)) → length-number (length-at a) ≡ answer-number a
+length-told-number (refused r) = refl
+length-told-number (given bs) = refl
 
 -- ---- the promises
 
-pub writes-placed : WritesPlaced
-writes-placed m out place n e =
-    answer-frame (writeOf m) (length out) place n e λ bs w t l.
+placed : (m : Message) (out : List ℕ) (place n : ℕ) (bs : List ℕ) → writeOf m ≡ given bs → has-room (length out) place (length bs) ≡ true → length bs ≡ n
+    → Placed m out (output-after (writeOf m) out place) place n
+placed m out place n bs w t l =
     let h = room-fits (length out) place (length bs) t in
     let s = writes-settled m bs w in
     let o : output-after (writeOf m) out place ≡ splice out place bs = rw (w, t) in
@@ -108,11 +139,28 @@ writes-placed m out place n e =
       same-length = ap length o ∙ length-splice out place bs h;
     }
 
+pub writes-placed : WritesPlaced
+writes-placed m out place e =
+    let a = written-of (length out) place (writeOf m) e in
+    placed m out place (value-at m (length out) place) (a .0) (a .1 .0) (a .1 .1 .0) (a .1 .1 .1)
+
 pub refuses-unchanged : RefusesUnchanged
-refuses-unchanged m out place r e = refused-same (writeOf m) out place r e
+refuses-unchanged m out place k = unchanged (writeOf m) out place k
+
+pub contents-exactly : ContentsExactly
+contents-exactly m size place n p q =
+    let c = contents-by size place (writeOf m) n p q in
+    let e = refused-exactly m in
+    (λ h. sym e ∙ c .0 h, λ h. c .1 (e ∙ h))
 
 pub space-exactly : SpaceExactly
-space-exactly m bs size place w = (
-  λ e. space-picked (has-room size place (length bs)) (length bs) Space (rw w at e) λ t. room-lacks size place (length bs) t,
-  λ h. rw (w, room-not size place (length bs) h),
+space-exactly m size place = (
+  space-of size place (writeOf m) (subst (λ (n : ℕ). n ≤ 4) (sym (refused-exactly m)) (early (m .head) (m .fields))),
+  λ h. rw (h .1 .0, room-not size place (length (h .0)) (h .1 .1)),
+)
+
+pub length-told : LengthTold
+length-told m = (
+  length-told-number (writeOf m) ∙ refused-exactly m,
+  λ size place e. let a = written-of size place (writeOf m) e in ap (λ (x : Answer (List ℕ)). length-value (length-at x)) (a .1 .0) ∙ a .1 .1 .1,
 )

@@ -27,6 +27,15 @@ abbrev pub written-value : Written → ℕ
 written-value (Frame n) = n
 written-value (Refused r) = 0
 
+-- the number that an answer of `frame_length` carries, and its value
+abbrev pub length-number : Length → ℕ
+length-number (sized.Bytes n) = 0
+length-number (sized.Refused r) = number r
+
+abbrev pub length-value : Length → ℕ
+length-value (sized.Bytes n) = n
+length-value (sized.Refused r) = 0
+
 -- whether n bytes fit from the place on: not "place past the end, or frame longer than what follows it"
 abbrev pub has-room : ℕ → ℕ → ℕ → Bool
 has-room size place n = pick (leb place size) (leb n (size - place)) false

@@ -18,7 +18,7 @@ use Rattle.messages.specs.Messages.{refused, given, writeOf}
 use Rattle.messages.specs.Contents.{contents}
 use Rattle.messages.specs.MessageOf.{headOf, fieldsOf, messageOf}
 use Rattle.messages.proofs.Exact.{write-admitted}
-use Rattle.messages.proofs.Contents.{refused-exactly}
+use Rattle.messages.proofs.Contents.{refusal-is}
 use Rattle.writer.specs.declared.Written.the-variants.{Frame, Refused}
 use Rattle.writer.specs.declared.Contents.the-variants as told
 use Rattle.writer.specs.Write.{has-room, written-at, output-after, told}
@@ -45,13 +45,13 @@ bytes-all (x ∷ l) h = (h 0, bytes-all l (λ i. h (suc i)))
 pub write-refused : (d : DeviceID) (m : UniversalNonRealTimeMsg) (text entries : List ℕ) (r : Refusal) → contents (headOf m) (fieldsOf m text entries) ≡ some r
     → writeOf (messageOf d m text entries) ≡ refused r
 unfolding writeOf
-write-refused d m text entries r e = rw (refused-exactly (messageOf d m text entries) ∙ e)
+write-refused d m text entries r e = rw (refusal-is (messageOf d m text entries) ∙ e)
 
 pub write-frame : (d : DeviceID) (m : UniversalNonRealTimeMsg) (text entries : List ℕ) → contents (headOf m) (fieldsOf m text entries) ≡ none → Bytes text → ChannelsFit m
     → writeOf (messageOf d m text entries) ≡ given (frame-of d m text entries)
 unfolding frame-of
 write-frame d m text entries e y h =
-    write-admitted (messageOf d m text entries) (refused-exactly (messageOf d m text entries) ∙ e) ∙ ap given (frame-parts d m text entries e y h)
+    write-admitted (messageOf d m text entries) (refusal-is (messageOf d m text entries) ∙ e) ∙ ap given (frame-parts d m text entries e y h)
 
 -- ---- the room
 
