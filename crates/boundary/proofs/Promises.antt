@@ -1,14 +1,13 @@
 -- What the boundary promises. Assumes nothing.
 use mathlib.Core.Path.{_≡_, refl, sym, ap, subst, _∙_}
+use mathlib.Core.Bool.{true, false}
 use mathlib.Core.List.{List, _∷_, _++_}
 use Prim.Native.Nat.{ℕ, suc, _≤_}
 use native.Mathlib.Omega.{arith}
 use lib.ListN.{length, take, drop, getD}
 use lib.Seq.{take-at}
 use Rattle.util.specs.Splice.{front}
-use Rattle.util.specs.declared.refusal.Refusal.{Refusal}
-use Rattle.util.specs.declared.refusal.Refusal.the-variants as R
-use Rattle.util.specs.Refusals.{number}
+use Rattle.util.proofs.Laws.Refusals.{number-some}
 use Rattle.messages.specs.declared.«file_reference».Kind.{Kind}
 use Rattle.messages.specs.declared.«system_exclusive».DeviceID.{DeviceID}
 use Rattle.messages.specs.declared.«system_exclusive».UniversalNonRealTimeMsg.{UniversalNonRealTimeMsg}
@@ -22,20 +21,18 @@ use Rattle.numbers.specs.Table.{message-of}
 use Rattle.reading.specs.Found.{text-in}
 use Rattle.reader.specs.declared.lent.Reading.{Reading}
 use Rattle.reader.specs.declared.lent.Reading.the-variants.{Frame, Refused}
-use Rattle.reader.specs.Reading.{ReadMet}
-use Rattle.reader.proofs.Promises.{gives-exactly}
+use Rattle.reader.specs.Reading.{reading-number, numbers-for, ReadMet}
+use Rattle.reader.proofs.Promises.{gives-exactly, gives-part}
 use Rattle.to_numbers.specs.Numbers.{numbers-of}
 use Rattle.to_numbers.proofs.Promises.{numbers-back}
 use Rattle.to_numbers.proofs.Settled.{settled-told}
 use Rattle.writer.specs.Write.{written-at, written-number, written-value, output-after}
-use Rattle.read_numbers.specs.Read.{ReadFor, reading-number, reading-numbers}
+use Rattle.read_numbers.specs.Read.{ReadFor, reading-numbers}
+use Rattle.read_numbers.proofs.Promises.{one-read-for}
 use Rattle.write_numbers.specs.Write.{made-number, made-value, made-output}
-use Rattle.boundary.specs.Promises.{numbers-in, part-in, places-in, Says, text-said, message-said, NumbersRead, WrittenAgain}
-
--- a refusal's number is not 0
-refusal-number : (r : Refusal) → 1 ≤ number r
-refusal-number =
-    elim [ R.High ↦ omega arith | R.Long ↦ omega arith | R.Value ↦ omega arith | R.Kind ↦ omega arith | R.Space ↦ omega arith | R.Shape ↦ omega arith | R.Head ↦ omega arith | R.Field ↦ omega arith | R.Sum ↦ omega arith | R.Hold ↦ omega arith | R.Stream ↦ omega arith | R.Index ↦ omega arith | R.UnexpectedEnd ↦ omega arith | R.ByteOverflow ↦ omega arith | R.NotImplemented ↦ omega arith ]
+use Rattle.boundary.specs.declared.kinds.Named.the-variants as named
+use Rattle.boundary.specs.Read.{Kept}
+use Rattle.boundary.specs.Promises.{numbers-in, part-in, places-in, Says, text-said, message-said, NumbersRead, PartNamed, PartRead, WrittenAgain, OneRead}
 
 -- what an answer says of a message that was read
 abbrev Told : Kind → List ℕ → List ℕ → List ℕ → List ℕ → Type 0
@@ -43,7 +40,7 @@ Told k frame dat es a = (s : Says frame dat es a) × ((readOf k frame ≡ given 
 
 module _ (k : Kind) (frame dat dat′ es es′ answer : List ℕ) where
   told : (r : Reading) → ReadMet r (readOf k frame) frame dat dat′ es es′ → 0 ≡ reading-number r → Told k frame dat′ es′ (front (reading-numbers r) answer)
-  told (Refused r) h e = absurd (omega (arith, refusal-number r))
+  told (Refused r) h e = absurd (omega (arith, number-some r))
   told (Frame d m from len places) h e =
       let x = messageOf d m (text-in m (take len (drop from frame)) (take places dat′)) (take places es′) in
       let g = gives-exactly k (Frame d m from len places) frame dat dat′ es es′ x h .0 refl in
@@ -55,6 +52,21 @@ module _ (k : Kind) (frame dat dat′ es es′ answer : List ℕ) where
 pub numbers-read : NumbersRead
 numbers-read k frame dat dat′ es es′ answer answer′ f =
     subst (Told k frame dat′ es′) (sym (f .answer-is)) (told k frame dat dat′ es es′ answer (f .reading) (f .met) (f .number-is))
+
+module _ (k : Kind) (frame dat dat′ es es′ answer : List ℕ) (m : Message) (g : readOf k frame ≡ given m) where
+  part-named : (r : Reading) → ReadMet r (readOf k frame) frame dat dat′ es es′ → 0 ≡ reading-number r → PartNamed frame (front (reading-numbers r) answer) m
+  part-named (Refused r) h e = absurd (omega (arith, number-some r))
+  part-named (Frame d c from len n) h e =
+      let x = messageOf d c (text-in c (take len (drop from frame)) (take n dat′)) (take n es′) in
+      let r = gives-exactly k (Frame d c from len n) frame dat dat′ es es′ x h .0 refl in
+      let i : given x ≡ given m = sym (read-exactly k frame x .1 (r .0, r .1)) ∙ g in
+      let p = gives-part k (Frame d c from len n) frame dat dat′ es es′ m h i in
+      let q = p .0 in
+      record { start-is = cc; length-is = cc; places-are = cc; stands = p .1 }
+
+pub part-read : PartRead
+part-read k frame dat dat′ es es′ answer answer′ m f g =
+    subst (λ (a : List ℕ). PartNamed frame a m) (sym (f .answer-is)) (part-named k frame dat dat′ es es′ answer m g (f .reading) (f .met) (f .number-is))
 
 pub written-again : WrittenAgain
 written-again k frame dat dat′ es es′ answer answer′ out place f =
@@ -73,3 +85,16 @@ written-again k frame dat dat′ es es′ answer answer′ out place f =
         ),
       ),
     )
+
+-- ---- one answer
+
+kept-once : {x n m : ℕ} {dat dat′ dat″ es es′ es″ answer answer′ answer″ : List ℕ} → Kept x n dat dat′ es es′ answer answer′ → Kept x m dat dat″ es es″ answer answer″
+    → (n ≡ m) × (dat′ ≡ dat″) × (es′ ≡ es″) × (answer′ ≡ answer″)
+kept-once w v =
+    (w .number-is ∙ sym (v .number-is), w .data-is ∙ sym (v .data-is), w .entries-are ∙ sym (v .entries-are), w .answer-is ∙ sym (v .answer-is))
+
+pub one-read : OneRead
+one-read named.Neither short n m frame dat dat′ dat″ es es′ es″ answer answer′ answer″ w v = kept-once w v
+one-read (named.Kind k) true n m frame dat dat′ dat″ es es′ es″ answer answer′ answer″ w v = kept-once w v
+one-read (named.Kind k) false n m frame dat dat′ dat″ es es′ es″ answer answer′ answer″ w v =
+    one-read-for k n m frame dat dat′ dat″ es es′ es″ answer answer′ answer″ w v
