@@ -1,38 +1,35 @@
 -- What the boundary promises. Assumes nothing.
 use mathlib.Core.Path.{_≡_, refl, sym, ap, subst, _∙_}
 use mathlib.Core.Bool.{true, false}
-use mathlib.Core.List.{List, _∷_, _++_}
-use Prim.Native.Nat.{ℕ, suc, _≤_}
+use mathlib.Core.List.{List}
+use Prim.Native.Nat.{ℕ, suc}
 use native.Mathlib.Omega.{arith}
-use lib.ListN.{length, take, drop, getD}
+use lib.ListN.{length, take, drop}
 use lib.Seq.{take-at}
 use Rattle.util.specs.Splice.{front}
 use Rattle.util.proofs.Laws.Refusals.{number-some}
 use Rattle.messages.specs.declared.«file_reference».Kind.{Kind}
-use Rattle.messages.specs.declared.«system_exclusive».DeviceID.{DeviceID}
-use Rattle.messages.specs.declared.«system_exclusive».UniversalNonRealTimeMsg.{UniversalNonRealTimeMsg}
-use Rattle.messages.specs.Messages.{Message, Answer, given, readOf, writeOf}
+use Rattle.messages.specs.Messages.{Message, Answer, given, readOf}
 use Rattle.messages.specs.MessageOf.{messageOf}
 use Rattle.messages.specs.Promises.{IsFrame}
 use Rattle.messages.proofs.Exact.{read-exactly}
 use Rattle.numbers.specs.declared.Made.{Made}
-use Rattle.numbers.specs.declared.Made.the-variants as made
 use Rattle.numbers.specs.Table.{message-of}
 use Rattle.reading.specs.Found.{text-in}
 use Rattle.reader.specs.declared.lent.Reading.{Reading}
 use Rattle.reader.specs.declared.lent.Reading.the-variants.{Frame, Refused}
-use Rattle.reader.specs.Reading.{reading-number, numbers-for, ReadMet}
+use Rattle.reader.specs.Reading.{reading-number, ReadMet}
 use Rattle.reader.proofs.Promises.{gives-exactly, gives-part}
 use Rattle.to_numbers.specs.Numbers.{numbers-of}
 use Rattle.to_numbers.proofs.Promises.{numbers-back}
 use Rattle.to_numbers.proofs.Settled.{settled-told}
 use Rattle.writer.specs.Write.{written-at, written-number, written-value, output-after}
-use Rattle.read_numbers.specs.Read.{ReadFor, reading-numbers}
+use Rattle.read_numbers.specs.Read.{reading-numbers}
 use Rattle.read_numbers.proofs.Promises.{one-read-for}
 use Rattle.write_numbers.specs.Write.{made-number, made-value, made-output}
 use Rattle.boundary.specs.declared.kinds.Named.the-variants as named
 use Rattle.boundary.specs.Read.{Kept}
-use Rattle.boundary.specs.Promises.{numbers-in, part-in, places-in, Says, text-said, message-said, NumbersRead, PartNamed, PartRead, WrittenAgain, OneRead}
+use Rattle.boundary.specs.Promises.{places-in, Says, text-said, message-said, NumbersRead, PartNamed, PartRead, WrittenAgain, OneRead}
 
 -- what an answer says of a message that was read
 abbrev Told : Kind → List ℕ → List ℕ → List ℕ → List ℕ → Type 0

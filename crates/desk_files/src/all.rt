@@ -4,7 +4,7 @@ use super::list::Tally;
 use desk_pieces::pieces;
 use desk_say::put;
 use messages::file_reference::Kind;
-use reader::body::Body;
+use reader::lent::Reading;
 use util::groups::at;
 
 // The line of a stretch that ends without F7.
@@ -18,11 +18,11 @@ fn unended(offset: u64, len: usize, why: &[u8]) {
 // The line of a stretch that ends with F7.
 fn ended(stretch: &[u8], offset: u64, kind: Kind, t: Tally) -> Tally {
     match reader::examine(stretch, kind) {
-        Body::Is { .. } => {
+        Reading::Frame { .. } => {
             frames::line(stretch, offset, kind);
             t.frame()
         }
-        Body::Refused(r) => {
+        Reading::Refused(r) => {
             frames::refused(stretch, offset, r);
             t.other()
         }

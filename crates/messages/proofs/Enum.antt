@@ -3,7 +3,7 @@
 use mathlib.Core.Path.{_≡_, refl, sym, ap, _∙_}
 use mathlib.Core.List.{List}
 use Prim.Native.Nat.{ℕ}
-use Rattle.messages.specs.Types.{Head, DeviceID, SampleDumpMsg, ExtendedSampleDumpMsg, FileDumpMsg, TuningBank, GeneralMidi, FileReferenceType, SelectMap, FileReferenceMsg, UniversalNonRealTimeMsg}
+use Rattle.messages.specs.Types.{Head, DeviceID, SampleDumpMsg, ExtendedSampleDumpMsg, FileDumpMsg, TuningBank, GeneralMidi, SelectMap, FileReferenceMsg, UniversalNonRealTimeMsg}
 use Rattle.messages.specs.declared.head.Head.the-variants as head
 use Rattle.messages.specs.declared.«sample_dump».SampleDumpMsg.the-variants as sample
 use Rattle.messages.specs.declared.«sample_dump».ExtendedSampleDumpMsg.the-variants as extended

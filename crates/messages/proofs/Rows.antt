@@ -22,7 +22,7 @@ use Rattle.messages.specs.format.{Got, bad, got, bad-got}
 use Rattle.messages.specs.Fields as field
 use Rattle.messages.specs.Layouts.{Fields, form, code, summed, reads}
 use Rattle.messages.specs.Messages.{Message, Answer, refused, given, answer-number, opening, unsnoc, inside, Opened, read-opening, plain-answer, sum-answer, read-summed, read-fields, read-opened, read-inside, readOf}
-use Rattle.messages.specs.Promises.{IsFrameFor, Shaped, Headed, ReadZero, ShapeExactly, NoHead, HeadExactly}
+use Rattle.messages.specs.Promises.{Shaped, Headed, ReadZero, ShapeExactly, NoHead, HeadExactly}
 use Rattle.messages.proofs.Exact.{inside-back, inside-shaped, opening-back, opening-only, read-settled, reads-back}
 
 -- ---- an answer by its number

@@ -20,7 +20,7 @@ use Rattle.messages.specs.Fields.{u7, u14, u28, device, tuning, file-typ
 use Rattle.messages.specs.Structures.{scale-1, scale-2}
 use Rattle.messages.specs.Maps.{reference-types, select-for, open-length}
 use Rattle.messages.specs.Layouts.{Fields, form, code, summed, text-at, text-in}
-use Rattle.messages.specs.Messages.{Message, opening, body, with-sum, framed, text, text-start}
+use Rattle.messages.specs.Messages.{Message, opening, body, with-sum, framed, text}
 use Rattle.messages.specs.Promises.{TextStands, TextInFrame}
 use Rattle.messages.proofs.Exact.{settled-parts, written}
 

@@ -1,6 +1,5 @@
 -- What reading into numbers promises. Assumes nothing.
 use mathlib.Core.Path.{sym, ap, _∙_}
-use mathlib.Core.List.{List}
 use Rattle.util.specs.Splice.{front}
 use Rattle.reader.specs.declared.lent.Reading.{Reading}
 use Rattle.reader.specs.Reading.{reading-number}

@@ -111,13 +111,33 @@ fn is_left(data: &[u8], entries: &[u64], used: usize, count: usize, s: &[u8], st
     are_entries(entries, count, s, start)
 }
 
-// The text of a message: its file data in lent space, or the part of the frame.
-fn text_of(code: u64, frame: &[u8], from: usize, len: usize, data: &[u8], bytes: &[u8]) -> bool {
+// Whether the text of a message is the case's: file data in just as many lent places and no part of the frame, or a part of the frame, as long.
+fn is_text(
+    code: u64,
+    frame: &[u8],
+    from: usize,
+    len: usize,
+    data: &[u8],
+    used: usize,
+    bytes: &[u8],
+) -> bool {
     if code == 0x0702 {
-        if data.len() < bytes.len() {
+        if from != 0 {
             return false;
         }
-        return check::same(&data[0..bytes.len()], bytes);
+        if len != 0 {
+            return false;
+        }
+        if used != bytes.len() {
+            return false;
+        }
+        if data.len() < used {
+            return false;
+        }
+        return check::same(&data[0..used], bytes);
+    }
+    if len != bytes.len() {
+        return false;
     }
     check::same(reader::part(frame, from, len), bytes)
 }
@@ -174,7 +194,7 @@ fn is_answer(
             if !is_left(data, entries, used, x.places, s, x.start) {
                 return false;
             }
-            text_of(code, frame, from, len, data, bytes)
+            is_text(code, frame, from, len, data, used, bytes)
         }
     }
 }

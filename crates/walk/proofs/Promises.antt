@@ -1,8 +1,7 @@
 -- Demand 3, from the contracts of `walk` and `read`. Assumes nothing.
-use mathlib.Core.Path.{_≡_, refl, sym, ap, ap₂, subst, _∙_}
+use mathlib.Core.Path.{_≡_, sym, ap, ap₂, subst, _∙_}
 use mathlib.Core.Logic.{⊎-elim}
-use mathlib.Core.Bool.{Bool, true, false}
-use mathlib.Core.List.{List, [], _∷_, _++_}
+use mathlib.Core.List.{List}
 use Prim.Native.Nat.{ℕ, _+_, _*_, _/_, _≤_, _<_}
 use native.Mathlib.Omega.{arith}
 use lib.Dec.{ltb}
@@ -12,17 +11,14 @@ use borrow.Author.Tests.{ltb-true, ltb-false}
 use Rattle.util.specs.Splice.{front}
 use Rattle.util.specs.declared.refusal.Refusal.the-variants.{Stream, Index}
 use Rattle.messages.specs.declared.«file_reference».Kind.{Kind}
-use Rattle.messages.specs.Messages.{Message, Answer, given, refused, readOf, file-data, entries, holding}
 use Rattle.messages.specs.Walk.{Stretch, Listed, Rising, since, frames}
 use Rattle.messages.proofs.Exact.{frame-unique}
 use Rattle.messages.proofs.Walk.{bool-cases, listed-exactly, listed-rising, same-from-there}
-use Rattle.reader.specs.declared.lent.Reading.{Reading}
-use Rattle.reader.specs.Reading.{said, data-after, entries-after}
 use Rattle.reader.specs.Promises.{Read}
 use Rattle.reader.proofs.Promises.{gives-exactly, same-answer}
 use Rattle.walk.specs.declared.Walked.{Walked}
 use Rattle.walk.specs.declared.Walked.the-variants.{Frames, Refused}
-use Rattle.walk.specs.Answer.{walked-number, walked-value, flat, pairs, how-many, WalkMet}
+use Rattle.walk.specs.Answer.{walked-number, walked-value, flat, how-many, WalkMet}
 use Rattle.walk.specs.Promises.{Walk, listed, stretch, ListsExactly, ListsRising, ReadsListed, Agree, SamePairs, SameReadings, StreamExactly, IndexExactly, CountsFrames, RefusedKept, RestKept, OneWalk}
 use Rattle.walk.proofs.Laws.Index.{pairs-flat, front-rest}
 use Rattle.walk.proofs.Laws.Answers.{too-long, too-many, enough}

@@ -11,13 +11,11 @@ use lib.ListN.{length, take, drop}
 use lib.Seq.{take-at, drop-at, drop-drop, length-take-le}
 use borrow.Author.Tests.{leb-true, leb-false}
 use Rattle.util.specs.Pick.{pick}
-use Rattle.util.specs.Refusals.{number}
 use Rattle.util.specs.Splice.{splice}
 use Rattle.util.proofs.Laws.Refusals.{number-some}
 use Rattle.util.proofs.Laws.Splice.{length-splice}
 use Rattle.util.specs.declared.refusal.Refusal.the-variants.{Space}
 use Rattle.messages.specs.Messages.{Message, Answer, refused, given, answer-number, writeOf}
-use Rattle.messages.specs.Contents.{contents}
 use Rattle.messages.proofs.Contents.{refused-exactly}
 use Rattle.messages.proofs.Exact.{writes-settled, written-reads}
 use Rattle.writer.proofs.Laws.Early.{early}

@@ -18,7 +18,7 @@ use Rattle.messages.specs.declared.«system_exclusive».DeviceID.{DeviceID}
 use Rattle.messages.specs.declared.«system_exclusive».UniversalNonRealTimeMsg.{UniversalNonRealTimeMsg}
 use Rattle.messages.specs.Fields.{device-of}
 use Rattle.messages.specs.Layouts.{Fields, form, code, text-at}
-use Rattle.messages.specs.Messages.{Message, make, Answer, refused, given, plain-answer, sum-answer, text, text-start}
+use Rattle.messages.specs.Messages.{Message, make, refused, given, plain-answer, sum-answer, text, text-start}
 use Rattle.messages.specs.MessageOf.{headOf, messageOf}
 use Rattle.messages.specs.Walk.{is-given}
 use Rattle.messages.proofs.Exact.{refused-given}

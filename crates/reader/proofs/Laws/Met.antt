@@ -2,11 +2,11 @@
 -- Assumes nothing.
 use mathlib.Core.Path.{_≡_, refl, sym, ap, ap₂, subst, _∙_}
 use mathlib.Core.Bool.{Bool, true, false, _&&_}
-use mathlib.Core.List.{List, [], _∷_, _++_}
+use mathlib.Core.List.{List, [], _∷_}
 use Prim.Native.Nat.{ℕ, zero, suc, _+_, _-_, _≤_, _<_}
 use native.Mathlib.Omega.{arith}
 use lib.Dec.{leb}
-use lib.ListN.{length, take, drop, length-take, length-drop}
+use lib.ListN.{length, take, drop, length-take}
 use lib.Seq.{take-take, take-all, drop-drop, take-at}
 use borrow.Author.Tests.{le-leb, lt-leb}
 use Rattle.util.specs.Groups.{Seven}
@@ -24,9 +24,9 @@ use Rattle.reading.specs.Found.{data-of, entries-of, text-in}
 use Rattle.reader.specs.declared.lent.Reading.{Reading}
 use Rattle.reader.specs.declared.lent.Reading.the-variants as reading
 use Rattle.reader.specs.Opening.{inner, fields-in}
-use Rattle.reader.specs.Reading.{said, numbers-in, numbers-for, data-given, entries-given, Tells, data-after, entries-after, ReadMet, has-data}
+use Rattle.reader.specs.Reading.{said, numbers-in, numbers-for, Tells, data-after, entries-after, ReadMet, has-data}
 use Rattle.reader.specs.Filled.{enough, Filled}
-use Rattle.reader.proofs.Laws.Apart.{data-is-at, no-entries, no-data, text-is-data, text-is-part, entries-free}
+use Rattle.reader.proofs.Laws.Apart.{data-is-at, no-entries, no-data, text-is-part, entries-free}
 use Rattle.reader.proofs.Laws.Lent.{lent-entries, lent-data}
 
 -- ---- a part of a part

@@ -1,16 +1,16 @@
 -- F0 and F7, by place.
 -- Assumes nothing.
 use mathlib.Core.Path.{_≡_, refl, sym, ap, ap₂, _∙_}
-use mathlib.Core.Bool.{Bool, true, false}
+use mathlib.Core.Bool.{true, false}
 use mathlib.Core.Option.{Option, none, some}
 use mathlib.Core.List.{List, [], _∷_, _++_}
-use Prim.Native.Nat.{ℕ, suc, _+_, _-_, _≤_, _<_}
+use Prim.Native.Nat.{ℕ, suc, _-_, _≤_, _<_}
 use native.Mathlib.Omega.{arith}
 use lib.ListN.{length, take, drop, getD, length-append, length-drop, length-take}
 use lib.Seq.{take-suc, take-all, take-at}
 use borrow.Author.Tests.{lt-leb}
 use Rattle.util.specs.Groups.{Seven, seven}
-use Rattle.util.proofs.Laws.Groups.{seven-true, true-seven}
+use Rattle.util.proofs.Laws.Groups.{true-seven}
 use Rattle.util.proofs.Laws.Options.{not-some}
 use Rattle.messages.specs.declared.«file_reference».Kind.{Kind}
 use Rattle.messages.specs.Messages.{Message, Answer, given, inside, read-inside, readOf}

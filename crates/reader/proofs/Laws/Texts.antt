@@ -23,7 +23,7 @@ use Rattle.messages.specs.declared.«system_exclusive».DeviceID.{DeviceID}
 use Rattle.messages.specs.declared.«system_exclusive».UniversalNonRealTimeMsg.{UniversalNonRealTimeMsg}
 use Rattle.messages.specs.declared.«system_exclusive».UniversalNonRealTimeMsg.the-variants as msg
 use Rattle.messages.specs.Layouts.{text-at}
-use Rattle.messages.specs.Messages.{Message, text}
+use Rattle.messages.specs.Messages.{text}
 use Rattle.messages.specs.MessageOf.{headOf, messageOf}
 use Rattle.reading.specs.Found.{text-in}
 

@@ -1,6 +1,6 @@
 -- `reader::read` meets its contract: the answer, and what the lent places hold after it.
 -- Assumes nothing.
-use mathlib.Core.Path.{ap, subst, _∙_}
+use mathlib.Core.Path.{subst}
 use mathlib.Core.Bool.{Bool}
 use mathlib.Core.List.{List}
 use Prim.Native.Nat.{ℕ}
