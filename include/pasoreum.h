@@ -134,8 +134,8 @@ uint32_t pasoreum_write(const uint64_t *numbers, size_t numbers_len, const uint8
  * Reads a frame for the kind of sound file that is open. File data goes to the start of data, tunings, note changes and bank maps to the start of
  * entries, one place each. The answer is
  *   answer[0]        how many numbers the message has, 16 at most
- *   answer[1], [2]   where its name, URL or sample bytes begin in the frame, and how many they are; 0 bytes where it has none
- *   answer[3]        how many places of data or of entries it took
+ *   answer[1], [2]   where its name, URL or sample bytes begin in the frame, and how many they are; both 0 where it has none
+ *   answer[3]        how many places of data or of entries it took: its file data bytes or its entries; 0 where it has neither
  *   answer[4] ..     the message as numbers
  * What stands past these in data, entries and answer keeps its value; under a refusal all of it does.
  * Refusals, in this order: NO_KIND, NO_ROOM (answer_len under PASOREUM_READING), SHAPE, HEAD, FIELD, SUM, HOLD.

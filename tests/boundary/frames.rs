@@ -104,9 +104,7 @@ impl Space {
     fn spoil_read(&mut self, run: &mut Run, m: &Msg) {
         let (d, e) = needs(m);
         run.spoil_place("count", &mut self.answer, 0);
-        if text_place(m.head).is_some() {
-            run.spoil_place("from", &mut self.answer, 1);
-        }
+        run.spoil_place("from", &mut self.answer, 1);
         run.spoil_place("len", &mut self.answer, 2);
         run.spoil_place("places", &mut self.answer, 3);
         run.spoil_place("field", &mut self.answer, 5 + m.f.len() as isize);
@@ -128,10 +126,9 @@ impl Space {
         let is_data = m.head == 0x0702;
         let (d, e) = needs(m);
         let numbers = numbers_of(m);
-        let said = self.answer.slice();
         let len = if is_data { 0 } else { m.text.len() };
-        // a message without a text names no bytes of the frame
-        let from = text_place(m.head).unwrap_or(said[1]);
+        // a message without a text names the part 0, 0 of the frame
+        let from = text_place(m.head).unwrap_or(0);
         if from as usize + len > frame.len() || (!is_data && frame[from as usize..][..len] != m.text[..]) {
             return false;
         }

@@ -59,7 +59,8 @@ fn is_the_crates(run: &mut Run, m: &Msg, frame: &[u8]) -> Option<bool> {
     let stands = stand(m);
     match stands {
         Stand::Refused(..) | Stand::NoRate => return None,
-        Stand::Differs => return Some(false),
+        // the last two are of document 02
+        Stand::Differs | Stand::FileCount | Stand::TextAlone => return Some(false),
         Stand::Equal | Stand::ScaleDumpSum | Stand::TwelfthNote => {}
     }
     let mut c = match crate_frame(m, None) {

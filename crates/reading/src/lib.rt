@@ -7,8 +7,8 @@ ghost use mathlib.Core.Path.{_≡_};
 ghost use Prim.Native.Nat.{_≤_};
 ghost use Rattle.messages.specs.Fields.{device-of};
 
-// What fields say: a message, the part of them that its name, URL or sample bytes are, and where the list starts that goes to lent space, with
-// the number of places that it takes; or nothing.
+// What fields say: a message, the part of them that its name, URL or sample bytes are, 0, 0 where it has none, and where the list starts that
+// goes to lent space, with the number of places that it takes; or nothing.
 pub enum Found {
     Is {
         m: UniversalNonRealTimeMsg,
