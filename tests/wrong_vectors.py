@@ -2,7 +2,7 @@
 """wrong_vectors.py VECTORS OUT: cases of reads, walks and identity readings, each as it is and with a false answer.
 
 VECTORS is the folder of read.vec, walk.vec and identity.vec. Every second case of OUT is false: another refusal, a number,
-a byte of the text or an entry changed, an entry fewer, another value, a refusal for an answer.
+a byte of the text or an entry changed, a byte or an entry fewer, another value, a refusal for an answer.
 """
 import struct
 import sys
@@ -57,6 +57,8 @@ def pairs(folder):
     yield first(reads, lambda c: given(c) and len(c['out']) > 6), lambda c: c['out'].__setitem__(5, c['out'][5] + 1)
     yield first(reads, lambda c: given(c) and c['bytes'] and c['out'][0] != 0x702), lambda c: c['bytes'].__setitem__(0, c['bytes'][0] ^ 1)
     yield first(reads, lambda c: given(c) and c['bytes'] and c['out'][0] == 0x702), lambda c: c['bytes'].__setitem__(0, c['bytes'][0] ^ 1)
+    yield first(reads, lambda c: given(c) and len(c['bytes']) > 1 and c['out'][0] != 0x702), lambda c: c['bytes'].pop()
+    yield first(reads, lambda c: given(c) and len(c['bytes']) > 1 and c['out'][0] == 0x702), lambda c: c['bytes'].pop()
     yield first(reads, lambda c: given(c) and len(c['list']) > 1), lambda c: c['list'].__setitem__(1, c['list'][1] + 1)
     yield first(reads, lambda c: given(c) and len(c['list']) > 1), lambda c: c['list'].pop()
     yield first(walks, lambda c: given(c) and len(c['list']) > 3), lambda c: c['list'].__setitem__(3, c['list'][3] - 1)
