@@ -15,7 +15,7 @@ use Rattle.messages.specs.Promises.{IsFrame}
 use Rattle.messages.proofs.Exact.{read-exactly}
 use Rattle.numbers.specs.declared.Made.{Made}
 use Rattle.numbers.specs.Table.{message-of}
-use Rattle.reading.specs.Found.{text-in}
+use Rattle.reading.specs.Found.{text-from}
 use Rattle.reader.specs.declared.lent.Reading.{Reading}
 use Rattle.reader.specs.declared.lent.Reading.the-variants.{Frame, Refused}
 use Rattle.reader.specs.Reading.{reading-number, ReadMet}
@@ -39,7 +39,7 @@ module _ (k : Kind) (frame dat dat′ es es′ answer : List ℕ) where
   told : (r : Reading) → ReadMet r (readOf k frame) frame dat dat′ es es′ → 0 ≡ reading-number r → Told k frame dat′ es′ (front (reading-numbers r) answer)
   told (Refused r) h e = absurd (omega (arith, number-some r))
   told (Frame d m from len places) h e =
-      let x = messageOf d m (text-in m (take len (drop from frame)) (take places dat′)) (take places es′) in
+      let x = messageOf d m (text-from m (take len (drop from frame)) (take places dat′)) (take places es′) in
       let g = gives-exactly k (Frame d m from len places) frame dat dat′ es es′ x h .0 refl in
       let n = take-at (numbers-of d m) (drop (suc (suc (suc (suc (length (numbers-of d m)))))) answer) (length (numbers-of d m)) refl in (
         record { device = d; m = m; numbers-say = ap message-of n ∙ numbers-back d m (settled-told d m _ _ (g .0 .settled)) },
@@ -54,7 +54,7 @@ module _ (k : Kind) (frame dat dat′ es es′ answer : List ℕ) (m : Message) 
   part-named : (r : Reading) → ReadMet r (readOf k frame) frame dat dat′ es es′ → 0 ≡ reading-number r → PartNamed frame (front (reading-numbers r) answer) m
   part-named (Refused r) h e = absurd (omega (arith, number-some r))
   part-named (Frame d c from len n) h e =
-      let x = messageOf d c (text-in c (take len (drop from frame)) (take n dat′)) (take n es′) in
+      let x = messageOf d c (text-from c (take len (drop from frame)) (take n dat′)) (take n es′) in
       let r = gives-exactly k (Frame d c from len n) frame dat dat′ es es′ x h .0 refl in
       let i : given x ≡ given m = sym (read-exactly k frame x .1 (r .0, r .1)) ∙ g in
       let p = gives-part k (Frame d c from len n) frame dat dat′ es es′ m h i in

@@ -12,7 +12,7 @@ use Rattle.messages.specs.MessageOf.{messageOf}
 use Rattle.messages.specs.Promises.{IsFrame, TextStands}
 use Rattle.numbers.specs.declared.Made.the-variants as made
 use Rattle.numbers.specs.Table.{message-of}
-use Rattle.reading.specs.Found.{text-in}
+use Rattle.reading.specs.Found.{text-from}
 use Rattle.writer.specs.Write.{written-at, written-number, written-value, output-after}
 use Rattle.read_numbers.specs.Read.{ReadFor}
 use Rattle.write_numbers.specs.Write.{write-number, write-value, write-output}
@@ -38,7 +38,7 @@ pub record Says (frame dat es a : List ℕ) : Type 0 where
   pub numbers-say : message-of (numbers-in a) ≡ made.Message device m
 
 abbrev pub text-said : {frame dat es a : List ℕ} → Says frame dat es a → List ℕ
-text-said {frame} {dat} {es} {a} s = text-in (s .m) (part-in frame a) (places-in dat a)
+text-said {frame} {dat} {es} {a} s = text-from (s .m) (part-in frame a) (places-in dat a)
 
 abbrev pub message-said : {frame dat es a : List ℕ} → Says frame dat es a → Message
 message-said {frame} {dat} {es} {a} s = messageOf (s .device) (s .m) (text-said s) (places-in es a)

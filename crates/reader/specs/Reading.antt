@@ -12,7 +12,7 @@ use Rattle.messages.specs.declared.«file_dump».FileDumpMsg.{FileDumpMsg}
 use Rattle.messages.specs.declared.«file_dump».FileDumpMsg.the-variants as file
 use Rattle.messages.specs.Messages.{Message, Answer, refused, given, text, text-start, file-data, entries, places, holding}
 use Rattle.messages.specs.MessageOf.{messageOf}
-use Rattle.reading.specs.Found.{text-in}
+use Rattle.reading.specs.Found.{text-from}
 use Rattle.reader.specs.declared.lent.Reading.{Reading}
 use Rattle.reader.specs.declared.lent.Reading.the-variants as reading
 
@@ -23,18 +23,18 @@ reading-number (reading.Refused r) = number r
 
 -- 01's value of an answer, "each reading the message": what it says with the frame and what lent space holds
 abbrev pub said : Reading → List ℕ → List ℕ → List ℕ → Answer Message
-said (reading.Frame d m from len n) frame dat es = given (messageOf d m (text-in m (take len (drop from frame)) (take n dat)) (take n es))
+said (reading.Frame d m from len n) frame dat es = given (messageOf d m (text-from m (take len (drop from frame)) (take n dat)) (take n es))
 said (reading.Refused r) frame dat es = refused r
 
 -- the numbers of an answer beside the message: where its name, URL or sample bytes begin in the frame, how many they are, the lent places it takes
-abbrev pub numbers-in : Reading → List ℕ
-numbers-in (reading.Frame d m from len n) = from ∷ len ∷ n ∷ []
-numbers-in (reading.Refused r) = []
+abbrev pub part-and-places : Reading → List ℕ
+part-and-places (reading.Frame d m from len n) = from ∷ len ∷ n ∷ []
+part-and-places (reading.Refused r) = []
 
 -- those of the message that is given: start 0 and length 0 where it has no text, places 0 where it has no list
-abbrev pub numbers-for : Answer Message → List ℕ
-numbers-for (given m) = text-start m ∷ length (text m) ∷ places m ∷ []
-numbers-for (refused r) = []
+abbrev pub part-and-places-of : Answer Message → List ℕ
+part-and-places-of (given m) = text-start m ∷ length (text m) ∷ places m ∷ []
+part-and-places-of (refused r) = []
 
 -- ---- with no lent space
 
@@ -50,7 +50,7 @@ entries-given (given m) = entries m
 -- examining a frame whose answer is a: what a reading answers that is lent the places which the message takes
 pub record Tells (r : Reading) (a : Answer Message) (frame : List ℕ) : Type 0 where
   pub says : said r frame (data-given a) (entries-given a) ≡ a
-  pub numbers-are : numbers-in r ≡ numbers-for a
+  pub numbers-are : part-and-places r ≡ part-and-places-of a
 
 -- ---- with lent space
 
@@ -67,7 +67,7 @@ entries-after (given m) l = front (entries m) l
 -- reading a frame whose answer without lent space is a: the answer with lent space, and what lent space holds after it
 pub record ReadMet (r : Reading) (a : Answer Message) (frame dat dat′ es es′ : List ℕ) : Type 0 where
   pub says : said r frame dat′ es′ ≡ holding (length dat) (length es) a
-  pub numbers-are : numbers-in r ≡ numbers-for (holding (length dat) (length es) a)
+  pub numbers-are : part-and-places r ≡ part-and-places-of (holding (length dat) (length es) a)
   pub data-is : dat′ ≡ data-after (holding (length dat) (length es) a) dat
   pub entries-are : es′ ≡ entries-after (holding (length dat) (length es) a) es
 

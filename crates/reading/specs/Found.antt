@@ -86,37 +86,38 @@ entries-of msg.Cancel f i n = []
 entries-of (msg.NAK n) f i k = []
 entries-of (msg.ACK n) f i k = []
 
--- ---- the text of a message: its file data, or a part of the fields
+-- ---- the text that a message is made of
 
 abbrev pub text-file : FileDumpMsg → List ℕ → List ℕ → List ℕ
 text-file (file.Header d t l) part dat = part
 text-file (file.Packet c) part dat = dat
 text-file (file.Request d t) part dat = part
 
-abbrev pub text-in : UniversalNonRealTimeMsg → List ℕ → List ℕ → List ℕ
-text-in (msg.SampleDump m) part dat = part
-text-in (msg.ExtendedSampleDump m) part dat = part
-text-in msg.IdentityRequest part dat = part
-text-in (msg.IdentityReply r) part dat = part
-text-in (msg.FileDump m) part dat = text-file m part dat
-text-in (msg.TuningBulkDumpRequest b p) part dat = part
-text-in (msg.KeyBasedTuningDump k) part dat = part
-text-in (msg.ScaleTuningDump1Byte s) part dat = part
-text-in (msg.ScaleTuningDump2Byte s) part dat = part
-text-in (msg.TuningNoteChange c) part dat = part
-text-in (msg.ScaleTuning1Byte s) part dat = part
-text-in (msg.ScaleTuning2Byte s) part dat = part
-text-in (msg.GeneralMidi g) part dat = part
-text-in (msg.FileReference m) part dat = part
-text-in msg.EOF part dat = part
-text-in msg.Wait part dat = part
-text-in msg.Cancel part dat = part
-text-in (msg.NAK n) part dat = part
-text-in (msg.ACK n) part dat = part
+-- its file data, or a part of the frame
+abbrev pub text-from : UniversalNonRealTimeMsg → List ℕ → List ℕ → List ℕ
+text-from (msg.SampleDump m) part dat = part
+text-from (msg.ExtendedSampleDump m) part dat = part
+text-from msg.IdentityRequest part dat = part
+text-from (msg.IdentityReply r) part dat = part
+text-from (msg.FileDump m) part dat = text-file m part dat
+text-from (msg.TuningBulkDumpRequest b p) part dat = part
+text-from (msg.KeyBasedTuningDump k) part dat = part
+text-from (msg.ScaleTuningDump1Byte s) part dat = part
+text-from (msg.ScaleTuningDump2Byte s) part dat = part
+text-from (msg.TuningNoteChange c) part dat = part
+text-from (msg.ScaleTuning1Byte s) part dat = part
+text-from (msg.ScaleTuning2Byte s) part dat = part
+text-from (msg.GeneralMidi g) part dat = part
+text-from (msg.FileReference m) part dat = part
+text-from msg.EOF part dat = part
+text-from msg.Wait part dat = part
+text-from msg.Cancel part dat = part
+text-from (msg.NAK n) part dat = part
+text-from (msg.ACK n) part dat = part
 
 -- the message that the numbers and the bytes of the fields say
 abbrev pub found-of : DeviceID → Found → List ℕ → Answer Message
-found-of d (Is m from len i n) f = given (messageOf d m (text-in m (take len (drop from f)) (data-of m f i)) (entries-of m f i n))
+found-of d (Is m from len i n) f = given (messageOf d m (text-from m (take len (drop from f)) (data-of m f i)) (entries-of m f i n))
 found-of d Nothing f = refused R.Field
 
 -- the text and the list lie in the fields, and the list takes n places, at most 128

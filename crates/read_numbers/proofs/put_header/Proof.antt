@@ -10,7 +10,7 @@ use Rattle.messages.specs.Fields.{device-of}
 use Rattle.reading.specs.declared.Found.{Found}
 use Rattle.reading.specs.declared.Found.the-variants.{Is}
 use Rattle.reading.specs.Found.{Reads}
-use Rattle.reader.proofs.Laws.Fields.{lent-fields, long-enough, fields-seven, text-in-frame}
+use Rattle.reader.proofs.Laws.Fields.{lent-fields, long-enough, fields-seven, begins-within}
 use Rattle.read_numbers.proofs.Plain.{plain-met, plain-put}
 use borrow.Author.Needs.{needs}
 use Rattle.read_numbers.proofs.put_header.Statement.{statement}
@@ -60,7 +60,7 @@ text-start-requires : tie.Need-text-start-requires
 text-start-requires c κs = let v = c .before .before .before .before .before in
     let s = st v in
     let a = s .args in
-    text-in-frame (now (a .frame)) head.SampleDumpHeader (a .start) (a .end) (a .sum) (s .pre .1) (reads v)
+    begins-within (now (a .frame)) head.SampleDumpHeader (a .start) (a .end) (a .sum) (s .pre .1) (reads v)
 
 put-sample-requires : tie.Need-put-sample-requires
 put-sample-requires c κs = search needs

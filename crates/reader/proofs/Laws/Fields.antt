@@ -23,13 +23,12 @@ use Rattle.messages.specs.MessageOf.{headOf, messageOf}
 use Rattle.messages.specs.Walk.{is-given}
 use Rattle.messages.proofs.Exact.{refused-given}
 use Rattle.reading.specs.declared.Found.the-variants.{Is, Nothing}
-use Rattle.reading.specs.Found.{Reads, data-of, entries-of, text-in, found-of, is-read}
+use Rattle.reading.specs.Found.{Reads, data-of, entries-of, text-from, found-of, is-read}
 use Rattle.reader.specs.declared.opening.Opening.the-variants as opening
 use Rattle.reader.specs.declared.lent.Reading.the-variants as reading
 use Rattle.reader.specs.declared.lent.Reading.{Reading}
 use Rattle.reader.specs.Opening.{inner, device-at, fields-in, opens-as, placed}
-use Rattle.reader.specs.Reading.{Tells}
-use Rattle.reader.specs.Reading.{ReadMet}
+use Rattle.reader.specs.Reading.{Tells, ReadMet}
 use Rattle.reader.specs.Filled.{Filled}
 use Rattle.reader.proofs.Laws.Sums.{sum-true}
 use Rattle.reader.proofs.Laws.Texts.{text-said}
@@ -113,8 +112,8 @@ module _ (frame : List ℕ) (h : Head) (start end : ℕ) (sum : Bool) (p : place
     pub fields-in-frame : from + len ≤ end - start
     fields-in-frame = omega (arith, w .part .0, length-take ((1 + end) - (1 + start)) (drop (1 + start) frame))
 
-    pub text-in-frame : 1 + start + from ≤ length frame
-    text-in-frame = omega (arith, long-enough, fields-in-frame, p .2)
+    pub begins-within : 1 + start + from ≤ length frame
+    begins-within = omega (arith, long-enough, fields-in-frame, p .2)
 
     -- where the text begins in the frame
     abbrev pub begin : ℕ
@@ -125,7 +124,7 @@ module _ (frame : List ℕ) (h : Head) (start end : ℕ) (sum : Bool) (p : place
     part = take len (drop from lent-fields)
 
     abbrev M : DeviceID → Message
-    M d = messageOf d m (text-in m part (data-of m lent-fields i)) (entries-of m lent-fields i n)
+    M d = messageOf d m (text-from m part (data-of m lent-fields i)) (entries-of m lent-fields i n)
 
     same-head : headOf m ≡ h
     same-head = head-read D h (form h .read lent-fields) (w .says D)

@@ -20,11 +20,11 @@ use Rattle.messages.specs.Layouts.{Fields}
 use Rattle.messages.specs.Messages.{Message, make, Answer, refused, given, text, text-start, file-data, entries, places, holding, held-unless}
 use Rattle.messages.specs.MessageOf.{messageOf, headOf, fieldsOf}
 use Rattle.reading.specs.Places.{data-at}
-use Rattle.reading.specs.Found.{data-of, entries-of, text-in}
+use Rattle.reading.specs.Found.{data-of, entries-of, text-from}
 use Rattle.reader.specs.declared.lent.Reading.{Reading}
 use Rattle.reader.specs.declared.lent.Reading.the-variants as reading
 use Rattle.reader.specs.Opening.{inner, fields-in}
-use Rattle.reader.specs.Reading.{said, numbers-in, numbers-for, Tells, data-after, entries-after, ReadMet, has-data}
+use Rattle.reader.specs.Reading.{said, part-and-places, part-and-places-of, Tells, data-after, entries-after, ReadMet, has-data}
 use Rattle.reader.specs.Filled.{enough, Filled}
 use Rattle.reader.proofs.Laws.Apart.{data-is-at, no-entries, no-data, text-is-part, entries-free}
 use Rattle.reader.proofs.Laws.Lent.{lent-entries, lent-data}
@@ -76,18 +76,18 @@ module _ (m : UniversalNonRealTimeMsg) (f : List ℕ) (i n : ℕ) (size : length
   data-at-size h = ap length (sym (data-is-at m f i h)) ∙ data-size h
 
   said-by : (b : Bool) → has-data m ≡ b → (part dat es : List ℕ)
-      → fieldsOf m (text-in m part (take n (front (data-of m f i) dat))) (take n (front (entries-of m f i n) es))
-      ≡ fieldsOf m (text-in m part (data-of m f i)) (entries-of m f i n)
+      → fieldsOf m (text-from m part (take n (front (data-of m f i) dat))) (take n (front (entries-of m f i n) es))
+      ≡ fieldsOf m (text-from m part (data-of m f i)) (entries-of m f i n)
   said-by true h part dat es =
-      ap (λ (t : List ℕ). fieldsOf m (text-in m part t) (take n (front (entries-of m f i n) es))) (front-take (data-of m f i) dat n (data-size h))
-      ∙ entries-free m (text-in m part (data-of m f i)) (take n (front (entries-of m f i n) es)) (entries-of m f i n) h
+      ap (λ (t : List ℕ). fieldsOf m (text-from m part t) (take n (front (entries-of m f i n) es))) (front-take (data-of m f i) dat n (data-size h))
+      ∙ entries-free m (text-from m part (data-of m f i)) (take n (front (entries-of m f i n) es)) (entries-of m f i n) h
   said-by false h part dat es =
       ap (λ (t : List ℕ). fieldsOf m t (take n (front (entries-of m f i n) es))) (text-is-part m part (take n (front (data-of m f i) dat)) (data-of m f i) h)
-      ∙ ap (fieldsOf m (text-in m part (data-of m f i))) (front-take (entries-of m f i n) es n (entries-size h))
+      ∙ ap (fieldsOf m (text-from m part (data-of m f i))) (front-take (entries-of m f i n) es n (entries-size h))
 
   fields-said : (part dat es : List ℕ)
-      → fieldsOf m (text-in m part (take n (front (data-of m f i) dat))) (take n (front (entries-of m f i n) es))
-      ≡ fieldsOf m (text-in m part (data-of m f i)) (entries-of m f i n)
+      → fieldsOf m (text-from m part (take n (front (data-of m f i) dat))) (take n (front (entries-of m f i n) es))
+      ≡ fieldsOf m (text-from m part (data-of m f i)) (entries-of m f i n)
   fields-said part dat es = said-by (has-data m) refl part dat es
 
   -- ---- what `fill` answers
@@ -137,16 +137,16 @@ module _ (m : UniversalNonRealTimeMsg) (f : List ℕ) (i n : ℕ) (size : length
 module _ (d : DeviceID) (m : UniversalNonRealTimeMsg) (from len i n : ℕ) (frame f part : List ℕ) (s : Seven f)
     (size : length (data-of m f i) + length (entries-of m f i n) ≡ n) (p : take len (drop from frame) ≡ part) where
   abbrev M : Message
-  M = messageOf d m (text-in m part (data-of m f i)) (entries-of m f i n)
+  M = messageOf d m (text-from m part (data-of m f i)) (entries-of m f i n)
 
   own-data : file-data M ≡ data-of m f i
   own-data = lent-data m f i part (entries-of m f i n)
 
   own-entries : entries M ≡ entries-of m f i n
-  own-entries = lent-entries f s i n m (text-in m part (data-of m f i))
+  own-entries = lent-entries f s i n m (text-from m part (data-of m f i))
 
   module _ (starts : from ≡ text-start M) (long : len ≡ length (text M)) where
-    numbers-same : from ∷ len ∷ n ∷ [] ≡ numbers-for (given M)
+    numbers-same : from ∷ len ∷ n ∷ [] ≡ part-and-places-of (given M)
     numbers-same =
         let e : n ≡ places M = omega (arith, size, ap length own-data, ap length own-entries) in
         ap₂ (λ (a b : ℕ). a ∷ b ∷ n ∷ []) starts long ∙ ap (λ (c : ℕ). text-start M ∷ length (text M) ∷ c ∷ []) e
@@ -156,10 +156,10 @@ module _ (d : DeviceID) (m : UniversalNonRealTimeMsg) (from len i n : ℕ) (fram
     told a e =
         subst (λ (a : Answer Message). Tells (reading.Frame d m from len n) a frame) e
         (record {
-          says = ap₂ (λ (x y : List ℕ). given (messageOf d m (text-in m (take len (drop from frame)) (take n x)) (take n y))) own-data own-entries
-              ∙ ap₂ (λ (x y : List ℕ). given (messageOf d m (text-in m (take len (drop from frame)) x) y))
+          says = ap₂ (λ (x y : List ℕ). given (messageOf d m (text-from m (take len (drop from frame)) (take n x)) (take n y))) own-data own-entries
+              ∙ ap₂ (λ (x y : List ℕ). given (messageOf d m (text-from m (take len (drop from frame)) x) y))
               (take-all n (data-of m f i) (omega (arith, size))) (take-all n (entries-of m f i n) (omega (arith, size)))
-              ∙ ap (λ (x : List ℕ). given (messageOf d m (text-in m x (data-of m f i)) (entries-of m f i n))) p;
+              ∙ ap (λ (x : List ℕ). given (messageOf d m (text-from m x (data-of m f i)) (entries-of m f i n))) p;
           numbers-are = numbers-same;
         })
 
@@ -171,19 +171,19 @@ module _ (d : DeviceID) (m : UniversalNonRealTimeMsg) (from len i n : ℕ) (fram
       holds-as dat es = ap₂ (λ (x y : List ℕ). held-unless (leb (length x) (length dat) && leb (length y) (length es)) M) (sym own-data) (sym own-entries)
 
       abbrev Meets : Answer Message → List ℕ → List ℕ → List ℕ → List ℕ → Type 0
-      Meets a dat dat′ es es′ = (said r frame dat′ es′ ≡ a) × (numbers-in r ≡ numbers-for a) × (dat′ ≡ data-after a dat) × (es′ ≡ entries-after a es)
+      Meets a dat dat′ es es′ = (said r frame dat′ es′ ≡ a) × (part-and-places r ≡ part-and-places-of a) × (dat′ ≡ data-after a dat) × (es′ ≡ entries-after a es)
 
       met : (t : Bool) (dat dat′ es es′ : List ℕ)
           → r ≡ pick t (reading.Frame d m from len n) (reading.Refused Hold)
           → dat′ ≡ pick t (front (data-of m f i) dat) dat → es′ ≡ pick t (front (entries-of m f i n) es) es
           → Meets (held t) dat dat′ es es′
-      met false dat dat′ es es′ e x y = (ap (λ (q : Reading). said q frame dat′ es′) e, ap numbers-in e, x, y)
+      met false dat dat′ es es′ e x y = (ap (λ (q : Reading). said q frame dat′ es′) e, ap part-and-places e, x, y)
       met true dat dat′ es es′ e x y = (
         ap (λ (q : Reading). said q frame dat′ es′) e
             ∙ ap₂ (λ (u v : List ℕ). said (reading.Frame d m from len n) frame u v) x y
-            ∙ ap (λ (u : List ℕ). given (messageOf d m (text-in m u (take n (front (data-of m f i) dat))) (take n (front (entries-of m f i n) es)))) p
+            ∙ ap (λ (u : List ℕ). given (messageOf d m (text-from m u (take n (front (data-of m f i) dat))) (take n (front (entries-of m f i n) es)))) p
             ∙ ap (λ (u : Fields (headOf m)). given (make d (headOf m) u)) (fields-said m f i n size part dat es),
-        ap numbers-in e ∙ numbers-same,
+        ap part-and-places e ∙ numbers-same,
         x ∙ ap (λ (u : List ℕ). front u dat) (sym own-data),
         y ∙ ap (λ (u : List ℕ). front u es) (sym own-entries),
       )

@@ -25,7 +25,7 @@ use Rattle.messages.specs.declared.«system_exclusive».UniversalNonRealTimeMsg
 use Rattle.messages.specs.Layouts.{text-at}
 use Rattle.messages.specs.Messages.{text}
 use Rattle.messages.specs.MessageOf.{headOf, messageOf}
-use Rattle.reading.specs.Found.{text-in}
+use Rattle.reading.specs.Found.{text-from}
 
 -- the part, or nothing where the head has no text
 abbrev pub text-of : UniversalNonRealTimeMsg → List ℕ → List ℕ
@@ -33,7 +33,7 @@ text-of m part = pick (eqb (text-at (headOf m)) 0) [] part
 
 module _ (d : DeviceID) (part dat es : List ℕ) where
   abbrev Same : UniversalNonRealTimeMsg → Type 0
-  Same m = text (messageOf d m (text-in m part dat) es) ≡ text-of m part
+  Same m = text (messageOf d m (text-from m part dat) es) ≡ text-of m part
 
   text-sample : (m : SampleDumpMsg) → Same (msg.SampleDump m)
   text-sample (sample.Header n x p l a e t) = refl
