@@ -16,10 +16,10 @@ static uint8_t checksum(const uint8_t *p, size_t n) {
     return x;
 }
 
-/* Lent space, and the frame; its fields are those bytes from start on, n of them, without a checksum. */
+/* Lent space, and the frame; its fields are n bytes behind the head, without a checksum. */
 struct reading {
     const uint8_t *frame;
-    size_t len, start, n;
+    size_t len, n;
     uint8_t *data;
     size_t data_len;
     uint64_t *entries;
@@ -39,7 +39,7 @@ static int is_summed(const struct reading *r) { return checksum(r->frame + 1, r-
 
 static uint32_t read_nak(struct reading *r) {
     if (r->n != 1) return PASOREUM_FIELD;
-    put_front(r, 3, r->start, 0, 0, 0x7E00);
+    put_front(r, 3, 0, 0, 0, 0x7E00);
     r->answer[6] = r->frame[4];
     return 0;
 }
@@ -48,7 +48,7 @@ static uint32_t read_header(struct reading *r) {
     const uint8_t *f = r->frame + 4;
     if (r->n != 16 || f[2] < 8 || f[2] > 28) return PASOREUM_FIELD;
     if (f[15] != 0 && f[15] != 1 && f[15] != 127) return PASOREUM_FIELD;
-    put_front(r, 9, r->start, 0, 0, 0x0100);
+    put_front(r, 9, 0, 0, 0, 0x0100);
     uint64_t *a = r->answer + 6;
     a[0] = u14(f), a[1] = f[2], a[2] = u21(f + 3), a[3] = u21(f + 6), a[4] = u21(f + 9), a[5] = u21(f + 12), a[6] = f[15];
     return 0;
@@ -67,7 +67,7 @@ static uint32_t read_extended(struct reading *r) {
     if (r->n != 28 || f[2] < 8 || f[2] > 28) return PASOREUM_FIELD;
     uint8_t t = f[26];
     if ((t & 0x3F) > 3 && t != 0x7E && t != 0x7F) return PASOREUM_FIELD;
-    put_front(r, 11, r->start, 0, 0, 0x0505);
+    put_front(r, 11, 0, 0, 0, 0x0505);
     uint64_t *a = r->answer + 6;
     a[0] = u14(f), a[1] = f[2], a[2] = u28(f + 3), a[3] = u28(f + 7);
     a[4] = u35(f + 11), a[5] = u35(f + 16), a[6] = u35(f + 21), a[7] = t, a[8] = f[27];
@@ -86,7 +86,7 @@ static uint32_t read_file(struct reading *r) {
     for (; packed - i >= 8; i += 8)
         for (int k = 0; k < 7; k++) r->data[o++] = (uint8_t)(p[i + 1 + k] | (p[i] << (k + 1) & 0x80));
     for (size_t k = 0; k + 1 < left; k++) r->data[o++] = (uint8_t)(p[i + 1 + k] | (p[i] << (k + 1) & 0x80));
-    put_front(r, 3, r->start, 0, size, 0x0702);
+    put_front(r, 3, 0, 0, size, 0x0702);
     r->answer[6] = f[0];
     return 0;
 }
@@ -170,13 +170,13 @@ __attribute__((noinline)) static uint32_t c_read(const uint8_t *s, size_t n, uin
     for (size_t i = 1; i < n - 1; i++)
         if (s[i] > 127) return PASOREUM_SHAPE;
     if (s[1] != 0x7E) return PASOREUM_HEAD;
-    struct reading r = {s, n, 4, n - 5, data, data_len, entries, entries_len, answer};
+    struct reading r = {s, n, n - 5, data, data_len, entries, entries_len, answer};
     switch (s[3]) {
     case 0x7E: return read_nak(&r);
     case 0x01: return read_header(&r);
     case 0x02: return r.n < 1 ? PASOREUM_FIELD : (r.n -= 1, read_packet(&r));
     }
-    r.start = 5, r.n = n - 6;
+    r.n = n - 6;
     int summed = s[3] == 0x07 || s[3] == 0x08;
     if (summed && r.n < 1) return PASOREUM_FIELD;
     r.n -= summed;
