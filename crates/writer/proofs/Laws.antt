@@ -8,4 +8,4 @@ pub mod Whole
 pub mod Lengths
 pub mod Answers
 pub mod Handshakes
-pub mod Early
+pub mod NotSpace

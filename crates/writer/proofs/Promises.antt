@@ -1,6 +1,6 @@
 -- What writing promises: the frame stands at the place and reads back, a refusal leaves the output as it was, and each number is given exactly.
 -- Assumes nothing.
-use mathlib.Core.Path.{_≡_, refl, sym, ap, subst, _∙_}
+use mathlib.Core.Path.{_≡_, refl, sym, ap, _∙_}
 use mathlib.Core.Logic.{_↔_}
 use mathlib.Core.Bool.{Bool, true, false}
 use mathlib.Core.List.{List, _++_}
@@ -18,7 +18,7 @@ use Rattle.util.specs.declared.refusal.Refusal.the-variants.{Space}
 use Rattle.messages.specs.Messages.{Message, Answer, refused, given, answer-number, writeOf}
 use Rattle.messages.proofs.Contents.{refused-exactly}
 use Rattle.messages.proofs.Exact.{writes-settled, written-reads}
-use Rattle.writer.proofs.Laws.Early.{early}
+use Rattle.writer.proofs.Laws.NotSpace.{not-space}
 use Rattle.writer.specs.declared.Written.the-variants.{Frame, Refused}
 use Rattle.writer.specs.Write.{written-number, written-value, has-room, written-at, output-after, length-number, length-value, length-at}
 use Rattle.writer.specs.Promises.{Placed, value-at, WritesPlaced, RefusesUnchanged, ContentsExactly, SpaceExactly, LengthTold}
@@ -84,20 +84,20 @@ module _ (size place : ℕ) where
   zero-by true n e = refl
   zero-by false n e = absurd (omega arith)
 
-  early-not : (t : Bool) (n k : ℕ) → 1 ≤ k → k ≤ 4 → written-number (pick t (Frame n) (Refused Space)) ≡ k → ⊥
-  early-not true n k a b e = omega arith
-  early-not false n k a b e = omega arith
+  other-not : (t : Bool) (n k : ℕ) → (k ≡ 0 → ⊥) → (k ≡ 5 → ⊥) → written-number (pick t (Frame n) (Refused Space)) ≡ k → ⊥
+  other-not true n k p q e = p (sym e)
+  other-not false n k p q e = q (sym e)
 
   -- the number is that of the contents, where these are refused
-  contents-by : (a : Answer (List ℕ)) (k : ℕ) → 1 ≤ k → k ≤ 4 → (written-number (written-at a size place) ≡ k) ↔ (answer-number a ≡ k)
+  contents-by : (a : Answer (List ℕ)) (k : ℕ) → (k ≡ 0 → ⊥) → (k ≡ 5 → ⊥) → (written-number (written-at a size place) ≡ k) ↔ (answer-number a ≡ k)
   contents-by (refused r) k p q = (λ e. e, λ e. e)
   contents-by (given bs) k p q = (
-    λ e. absurd (early-not (has-room size place (length bs)) (length bs) k p q e),
-    λ e. absurd (omega arith),
+    λ e. absurd (other-not (has-room size place (length bs)) (length bs) k p q e),
+    λ e. absurd (p (sym e)),
   )
 
-  space-of : (a : Answer (List ℕ)) → answer-number a ≤ 4 → written-number (written-at a size place) ≡ 5 → (bs : List ℕ) × ((a ≡ given bs) × (size < place + length bs))
-  space-of (refused r) h e = absurd (omega arith)
+  space-of : (a : Answer (List ℕ)) → (answer-number a ≡ 5 → ⊥) → written-number (written-at a size place) ≡ 5 → (bs : List ℕ) × ((a ≡ given bs) × (size < place + length bs))
+  space-of (refused r) h e = absurd (h e)
   space-of (given bs) h e = (bs, (refl, room-lacks size place (length bs) (space-by (has-room size place (length bs)) (length bs) e)))
 
   written-of : (a : Answer (List ℕ)) → written-number (written-at a size place) ≡ 0
@@ -118,6 +118,10 @@ unchanged (given bs) out place k = unchanged-by (has-room (length out) place (le
 length-told-number : (a : Answer (List ℕ)) → length-number (length-at a) ≡ answer-number a
 length-told-number (refused r) = refl
 length-told-number (given bs) = refl
+
+zero-besides : (a : Answer (List ℕ)) → (length-number (length-at a) ≡ 0 → ⊥) → length-value (length-at a) ≡ 0
+zero-besides (refused r) k = refl
+zero-besides (given bs) k = absurd (k refl)
 
 -- ---- the promises
 
@@ -153,12 +157,16 @@ contents-exactly m size place n p q =
 
 pub space-exactly : SpaceExactly
 space-exactly m size place = (
-  space-of size place (writeOf m) (subst (λ (n : ℕ). n ≤ 4) (sym (refused-exactly m)) (early (m .head) (m .fields))),
+  space-of size place (writeOf m) (λ e. not-space (m .head) (m .fields) (sym (refused-exactly m) ∙ e)),
   λ h. rw (h .1 .0, room-not size place (length (h .0)) (h .1 .1)),
 )
 
 pub length-told : LengthTold
-length-told m = (
-  length-told-number (writeOf m) ∙ refused-exactly m,
-  λ size place e. let a = written-of size place (writeOf m) e in ap (λ (x : Answer (List ℕ)). length-value (length-at x)) (a .1 .0) ∙ a .1 .1 .1,
-)
+length-told m =
+    record {
+      refused-as = length-told-number (writeOf m) ∙ refused-exactly m;
+      zero-besides = zero-besides (writeOf m);
+      as-written = λ size place e.
+          let a = written-of size place (writeOf m) e in
+          ap (λ (x : Answer (List ℕ)). length-value (length-at x)) (a .1 .0) ∙ a .1 .1 .1;
+    }

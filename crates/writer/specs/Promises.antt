@@ -3,7 +3,7 @@ use mathlib.Core.Path.{_≡_}
 use mathlib.Core.Logic.{_↔_}
 use mathlib.Core.Bool.{true}
 use mathlib.Core.List.{List}
-use Prim.Native.Nat.{ℕ, _+_, _≤_, _<_}
+use Prim.Native.Nat.{ℕ, _+_, _<_}
 use lib.ListN.{length, take, drop}
 use Rattle.messages.specs.declared.«file_reference».Kind.{Kind}
 use Rattle.messages.specs.Layouts.{reads}
@@ -40,19 +40,22 @@ RefusesUnchanged =
     (m : Message) (out : List ℕ) (place : ℕ) → (number-at m (length out) place ≡ 0 → ⊥)
     → (value-at m (length out) place ≡ 0) × (output-after (writeOf m) out place ≡ out)
 
--- rows 1 to 4, whatever the output: a number of theirs is given exactly where the contents say it
+-- rows 1 to 4, whatever the output: every number but 0 and SPACE's is given exactly where the contents say it
 abbrev pub ContentsExactly : Type 0
 ContentsExactly =
-    (m : Message) (size place n : ℕ) → 1 ≤ n → n ≤ 4 → (number-at m size place ≡ n) ↔ (refusal-number (contents (m .head) (m .fields)) ≡ n)
+    (m : Message) (size place n : ℕ) → (n ≡ 0 → ⊥) → (n ≡ 5 → ⊥)
+    → (number-at m size place ≡ n) ↔ (refusal-number (contents (m .head) (m .fields)) ≡ n)
 
 -- row 5, SPACE: an admitted message whose frame would end past the output's end
 abbrev pub SpaceExactly : Type 0
 SpaceExactly =
     (m : Message) (size place : ℕ) → (number-at m size place ≡ 5) ↔ ((bs : List ℕ) × (IsFrame m bs × (size < place + length bs)))
 
--- the length that is told before writing: refused as the contents say, and the value of every writing that is not refused
+-- the length that is told before writing: refused as the contents say, with 0 besides, and else the value of every writing that is not refused
+pub record LengthOf (m : Message) : Type 0 where
+  pub refused-as : length-number (length-at (writeOf m)) ≡ refusal-number (contents (m .head) (m .fields))
+  pub zero-besides : (length-number (length-at (writeOf m)) ≡ 0 → ⊥) → length-value (length-at (writeOf m)) ≡ 0
+  pub as-written : (size place : ℕ) → number-at m size place ≡ 0 → length-value (length-at (writeOf m)) ≡ value-at m size place
+
 abbrev pub LengthTold : Type 0
-LengthTold =
-    (m : Message)
-    → (length-number (length-at (writeOf m)) ≡ refusal-number (contents (m .head) (m .fields)))
-    × ((size place : ℕ) → number-at m size place ≡ 0 → length-value (length-at (writeOf m)) ≡ value-at m size place)
+LengthTold = (m : Message) → LengthOf m
