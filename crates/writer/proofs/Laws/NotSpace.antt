@@ -34,63 +34,63 @@ use Rattle.messages.specs.Contents.{high-url, longer, too-large, zero-maker, ot
 abbrev pub NotSpace : Option Refusal → Type 0
 NotSpace o = refusal-number o ≡ 5 → ⊥
 
-not-unless : (r : Refusal) → (number r ≡ 5 → ⊥) → (t : Bool) → NotSpace (unless r t)
-not-unless r h true = λ e. omega arith
-not-unless r h false = h
+unless-not-space : (r : Refusal) → (number r ≡ 5 → ⊥) → (t : Bool) → NotSpace (unless r t)
+unless-not-space r h true = λ e. omega arith
+unless-not-space r h false = h
 
-not-pick : (t : Bool) (a b : Refusal) → (number a ≡ 5 → ⊥) → (number b ≡ 5 → ⊥) → NotSpace (pick t (some a) (some b))
-not-pick true a b h k = h
-not-pick false a b h k = k
+pick-not-space : (t : Bool) (a b : Refusal) → (number a ≡ 5 → ⊥) → (number b ≡ 5 → ⊥) → NotSpace (pick t (some a) (some b))
+pick-not-space true a b h k = h
+pick-not-space false a b h k = k
 
-not-least : (a b : Option Refusal) → NotSpace a → NotSpace b → NotSpace (least a b)
-not-least none b h k = k
-not-least (some a) none h k = h
-not-least (some a) (some b) h k = not-pick (leb (rank a) (rank b)) a b h k
+least-not-space : (a b : Option Refusal) → NotSpace a → NotSpace b → NotSpace (least a b)
+least-not-space none b h k = k
+least-not-space (some a) none h k = h
+least-not-space (some a) (some b) h k = pick-not-space (leb (rank a) (rank b)) a b h k
 
-not-high : (l : List ℕ) → NotSpace (high l)
-not-high l = not-unless High (λ e. omega arith) (seven l)
+high-not-space : (l : List ℕ) → NotSpace (high l)
+high-not-space l = unless-not-space High (λ e. omega arith) (seven l)
 
-not-url : (l : List ℕ) → NotSpace (high-url l)
-not-url l = not-unless High (λ e. omega arith) (is-text l)
+url-not-space : (l : List ℕ) → NotSpace (high-url l)
+url-not-space l = unless-not-space High (λ e. omega arith) (is-text l)
 
-not-longer : {A : Type 0} (n : ℕ) (l : List A) → NotSpace (longer n l)
-not-longer n l = not-unless Long (λ e. omega arith) (leb (length l) n)
+longer-not-space : {A : Type 0} (n : ℕ) (l : List A) → NotSpace (longer n l)
+longer-not-space n l = unless-not-space Long (λ e. omega arith) (leb (length l) n)
 
-not-value : (v : ℕ) → NotSpace (too-large v)
-not-value v = not-unless Value (λ e. omega arith) (fits-u28 v)
+value-not-space : (v : ℕ) → NotSpace (too-large v)
+value-not-space v = unless-not-space Value (λ e. omega arith) (fits-u28 v)
 
-not-maker : (m : ManufacturerID) → NotSpace (zero-maker m)
-not-maker (OneByte b) = not-unless Value (λ e. omega arith) (leb 1 b)
-not-maker (Extended a b) = λ e. omega arith
+maker-not-space : (m : ManufacturerID) → NotSpace (zero-maker m)
+maker-not-space (OneByte b) = unless-not-space Value (λ e. omega arith) (leb 1 b)
+maker-not-space (Extended a b) = λ e. omega arith
 
-not-kind : (t : FileReferenceType) (x : AnySelect) → NotSpace (other-kind t x)
-not-kind DLS (bankSelect x) = λ e. omega arith
-not-kind DLS (wavSelect x) = λ e. omega arith
-not-kind SF2 (bankSelect x) = λ e. omega arith
-not-kind SF2 (wavSelect x) = λ e. omega arith
-not-kind WAV (bankSelect x) = λ e. omega arith
-not-kind WAV (wavSelect x) = λ e. omega arith
+kind-not-space : (t : FileReferenceType) (x : AnySelect) → NotSpace (other-kind t x)
+kind-not-space DLS (bankSelect x) = λ e. omega arith
+kind-not-space DLS (wavSelect x) = λ e. omega arith
+kind-not-space SF2 (bankSelect x) = λ e. omega arith
+kind-not-space SF2 (wavSelect x) = λ e. omega arith
+kind-not-space WAV (bankSelect x) = λ e. omega arith
+kind-not-space WAV (wavSelect x) = λ e. omega arith
 
-not-name : (l : List ℕ) → NotSpace (least (longer most-name l) (high l))
-not-name l = not-least (longer most-name l) (high l) (not-longer most-name l) (not-high l)
+name-not-space : (l : List ℕ) → NotSpace (least (longer most-name l) (high l))
+name-not-space l = least-not-space (longer most-name l) (high l) (longer-not-space most-name l) (high-not-space l)
 
 pub not-space : (h : Head) (f : Fields h) → NotSpace (contents h f)
-not-space head.SampleName f = not-high (f .name)
-not-space head.ExtendedHeader f = not-least (too-large (f .rate-whole)) (too-large (f .rate-fraction)) (not-value (f .rate-whole)) (not-value (f .rate-fraction))
-not-space head.IdentityReply f = not-maker (f .id)
+not-space head.SampleName f = high-not-space (f .name)
+not-space head.ExtendedHeader f = least-not-space (too-large (f .rate-whole)) (too-large (f .rate-fraction)) (value-not-space (f .rate-whole)) (value-not-space (f .rate-fraction))
+not-space head.IdentityReply f = maker-not-space (f .id)
 not-space head.FileDumpHeader f =
-    not-least (high (type-bytes (f .type))) (least (too-large (f .length)) (least (longer most-name (f .name)) (high (f .name)))) (not-high (type-bytes (f .type)))
-    (not-least (too-large (f .length)) (least (longer most-name (f .name)) (high (f .name))) (not-value (f .length)) (not-name (f .name)))
-not-space head.FileDumpPacket f = not-longer most-data (f .file-data)
+    least-not-space (high (type-bytes (f .type))) (least (too-large (f .length)) (least (longer most-name (f .name)) (high (f .name)))) (high-not-space (type-bytes (f .type)))
+    (least-not-space (too-large (f .length)) (least (longer most-name (f .name)) (high (f .name))) (value-not-space (f .length)) (name-not-space (f .name)))
+not-space head.FileDumpPacket f = longer-not-space most-data (f .file-data)
 not-space head.FileDumpRequest f =
-    not-least (high (type-bytes (f .type))) (least (longer most-name (f .name)) (high (f .name))) (not-high (type-bytes (f .type))) (not-name (f .name))
-not-space head.KeyBasedTuningDump f = not-high (f .name)
-not-space head.BankKeyBasedTuningDump f = not-high (f .name)
-not-space head.ScaleTuningDump1Byte f = not-high (f .name)
-not-space head.ScaleTuningDump2Byte f = not-high (f .name)
-not-space head.TuningNoteChange f = not-longer most-changes (f .changes)
-not-space head.FileReferenceOpen f = not-url (f .url)
-not-space head.FileReferenceOpenSelect f = not-least (high-url (f .url)) (other-kind (f .type) (f .map)) (not-url (f .url)) (not-kind (f .type) (f .map))
+    least-not-space (high (type-bytes (f .type))) (least (longer most-name (f .name)) (high (f .name))) (high-not-space (type-bytes (f .type))) (name-not-space (f .name))
+not-space head.KeyBasedTuningDump f = high-not-space (f .name)
+not-space head.BankKeyBasedTuningDump f = high-not-space (f .name)
+not-space head.ScaleTuningDump1Byte f = high-not-space (f .name)
+not-space head.ScaleTuningDump2Byte f = high-not-space (f .name)
+not-space head.TuningNoteChange f = longer-not-space most-changes (f .changes)
+not-space head.FileReferenceOpen f = url-not-space (f .url)
+not-space head.FileReferenceOpenSelect f = least-not-space (high-url (f .url)) (other-kind (f .type) (f .map)) (url-not-space (f .url)) (kind-not-space (f .type) (f .map))
 not-space head.SampleDumpHeader f = λ e. omega arith
 not-space head.SampleDumpPacket f = λ e. omega arith
 not-space head.SampleDumpRequest f = λ e. omega arith
