@@ -12,27 +12,6 @@ returns : tie.Need-returns
 returns c = let t = lt-ltb _ _ (c .if1 .taken) in
     (rw t, rw t)
 
-from-midi-requires : tie.Need-from-midi-requires
-from-midi-requires c κs = search needs
-
-enum-known-reply : tie.Need-enum-known-reply
-enum-known-reply c = search needs
-
-put-reply-requires : tie.Need-put-reply-requires
-put-reply-requires c κs = search needs
-
-enum-known-r : tie.Need-enum-known-r
-enum-known-r c = search needs
-
-number-requires : tie.Need-number-requires
-number-requires c κs = search needs
-
-cast-result : tie.Need-cast-result
-cast-result c = search needs
-
-same-length : tie.Need-same-length
-same-length c = search needs
-
 returns-2 : tie.Need-returns-2
 returns-2 c =
     let a = c .before .before .before .before .before .before .before in
@@ -53,12 +32,12 @@ pasoreum-identity-spec =
     tie.close
     (tie.spec
     returns
-    from-midi-requires
-    enum-known-reply
-    put-reply-requires
-    enum-known-r
-    number-requires
-    cast-result
-    same-length
+    (λ c κs. search needs)
+    (λ c. search needs)
+    (λ c κs. search needs)
+    (λ c. search needs)
+    (λ c κs. search needs)
+    (λ c. search needs)
+    (λ c. search needs)
     returns-2
     returns-3)

@@ -7,21 +7,6 @@ use borrow.Author.Needs.{needs}
 use Rattle.boundary.proofs.pasoreum_split_rate.Statement.{statement}
 use Rattle.boundary.proofs.pasoreum_split_rate.Tie as tie
 
-split-rate-requires : tie.Need-split-rate-requires
-split-rate-requires c κs = search needs
-
-enum-known-w : tie.Need-enum-known-w
-enum-known-w c = search needs
-
-enum-known-r : tie.Need-enum-known-r
-enum-known-r c = search needs
-
-number-requires : tie.Need-number-requires
-number-requires c κs = search needs
-
-cast-result : tie.Need-cast-result
-cast-result c = search needs
-
 returns : tie.Need-returns
 returns c = let n = c .before in
     let q = sym (n .w .given .1) ∙ n .before .before .split-rate .ensures in
@@ -36,10 +21,10 @@ pub pasoreum-split-rate-spec : {M : Type 1} → statement M
 pasoreum-split-rate-spec =
     tie.close
     (tie.spec
-    split-rate-requires
-    enum-known-w
-    enum-known-r
-    number-requires
-    cast-result
+    (λ c κs. search needs)
+    (λ c. search needs)
+    (λ c. search needs)
+    (λ c κs. search needs)
+    (λ c. search needs)
     returns
     returns-2)

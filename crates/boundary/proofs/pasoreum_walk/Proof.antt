@@ -7,21 +7,6 @@ use borrow.Author.Needs.{needs}
 use Rattle.boundary.proofs.pasoreum_walk.Statement.{statement}
 use Rattle.boundary.proofs.pasoreum_walk.Tie as tie
 
-kind-of-requires : tie.Need-kind-of-requires
-kind-of-requires c κs = search needs
-
-enum-known-k : tie.Need-enum-known-k
-enum-known-k c = search needs
-
-walk-for-requires : tie.Need-walk-for-requires
-walk-for-requires c κs = search needs
-
-enum-told : tie.Need-enum-told
-enum-told c = search needs
-
-same-length : tie.Need-same-length
-same-length c = search needs
-
 returns : tie.Need-returns
 returns c = let w = c .before .before .walk-for in
     walked-as (sym (c .before .before .before .before .before .before .before .before .kind-of .ensures) ∙ c .before .before .before .before .before .before .k .given .1) _ _ _ _ _ (w .ensures .0) (w .ensures .1 .0) (w .ensures .1 .1)
@@ -33,10 +18,10 @@ pub pasoreum-walk-spec : {M : Type 1} → statement M
 pasoreum-walk-spec =
     tie.close
     (tie.spec
-    kind-of-requires
-    enum-known-k
-    walk-for-requires
-    enum-told
-    same-length
+    (λ c κs. search needs)
+    (λ c. search needs)
+    (λ c κs. search needs)
+    (λ c. search needs)
+    (λ c. search needs)
     returns
     returns-2)

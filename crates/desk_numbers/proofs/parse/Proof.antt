@@ -9,11 +9,8 @@ use Rattle.desk_numbers.proofs.parse.Tie as tie
 returns : tie.Need-returns
 returns c = number-none _ (c .if1 .taken)
 
-digits-requires : tie.Need-digits-requires
-digits-requires c κs = search needs
-
 returns-2 : tie.Need-returns-2
 returns-2 c = c .digits .ensures ∙ number-some _ (c .before .if1 .left)
 
 pub parse-spec : {M : Type 1} → statement M
-parse-spec = tie.close (tie.spec returns digits-requires returns-2)
+parse-spec = tie.close (tie.spec returns (λ c κs. search needs) returns-2)

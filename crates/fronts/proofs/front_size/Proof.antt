@@ -4,84 +4,6 @@ use borrow.Author.Needs.{needs}
 use Rattle.fronts.proofs.front_size.Statement.{statement}
 use Rattle.fronts.proofs.front_size.Tie as tie
 
-enum-known-m : tie.Need-enum-known-m
-enum-known-m c = search needs
-
-size-sample-requires : tie.Need-size-sample-requires
-size-sample-requires c κs = search needs
-
-enum-known-m-2 : tie.Need-enum-known-m-2
-enum-known-m-2 c = search needs
-
-size-extended-requires : tie.Need-size-extended-requires
-size-extended-requires c κs = search needs
-
-enum-told : tie.Need-enum-told
-enum-told c = search needs
-
-enum-known-m-3 : tie.Need-enum-known-m-3
-enum-known-m-3 c = search needs
-
-size-maker-requires : tie.Need-size-maker-requires
-size-maker-requires c κs = search needs
-
-enum-known-m-4 : tie.Need-enum-known-m-4
-enum-known-m-4 c = search needs
-
-size-file-requires : tie.Need-size-file-requires
-size-file-requires c κs = search needs
-
-enum-known-m-5 : tie.Need-enum-known-m-5
-enum-known-m-5 c = search needs
-
-size-bank-requires : tie.Need-size-bank-requires
-size-bank-requires c κs = search needs
-
-enum-known-m-6 : tie.Need-enum-known-m-6
-enum-known-m-6 c = search needs
-
-size-bank-requires-2 : tie.Need-size-bank-requires-2
-size-bank-requires-2 c κs = search needs
-
-enum-told-2 : tie.Need-enum-told-2
-enum-told-2 c = search needs
-
-enum-told-3 : tie.Need-enum-told-3
-enum-told-3 c = search needs
-
-enum-told-4 : tie.Need-enum-told-4
-enum-told-4 c = search needs
-
-enum-told-5 : tie.Need-enum-told-5
-enum-told-5 c = search needs
-
-enum-told-6 : tie.Need-enum-told-6
-enum-told-6 c = search needs
-
-enum-told-7 : tie.Need-enum-told-7
-enum-told-7 c = search needs
-
-enum-known-m-7 : tie.Need-enum-known-m-7
-enum-known-m-7 c = search needs
-
-size-reference-requires : tie.Need-size-reference-requires
-size-reference-requires c κs = search needs
-
-enum-told-8 : tie.Need-enum-told-8
-enum-told-8 c = search needs
-
-enum-told-9 : tie.Need-enum-told-9
-enum-told-9 c = search needs
-
-enum-told-10 : tie.Need-enum-told-10
-enum-told-10 c = search needs
-
-enum-told-11 : tie.Need-enum-told-11
-enum-told-11 c = search needs
-
-enum-told-12 : tie.Need-enum-told-12
-enum-told-12 c = search needs
-
 returns : tie.Need-returns
 returns c = rw (c .before .before .m .given .1) (c .size-sample .ensures)
 
@@ -143,32 +65,32 @@ pub front-size-spec : {M : Type 1} → statement M
 front-size-spec =
     tie.close
     (tie.spec
-    enum-known-m
-    size-sample-requires
-    enum-known-m-2
-    size-extended-requires
-    enum-told
-    enum-known-m-3
-    size-maker-requires
-    enum-known-m-4
-    size-file-requires
-    enum-known-m-5
-    size-bank-requires
-    enum-known-m-6
-    size-bank-requires-2
-    enum-told-2
-    enum-told-3
-    enum-told-4
-    enum-told-5
-    enum-told-6
-    enum-told-7
-    enum-known-m-7
-    size-reference-requires
-    enum-told-8
-    enum-told-9
-    enum-told-10
-    enum-told-11
-    enum-told-12
+    (λ c. search needs)
+    (λ c κs. search needs)
+    (λ c. search needs)
+    (λ c κs. search needs)
+    (λ c. search needs)
+    (λ c. search needs)
+    (λ c κs. search needs)
+    (λ c. search needs)
+    (λ c κs. search needs)
+    (λ c. search needs)
+    (λ c κs. search needs)
+    (λ c. search needs)
+    (λ c κs. search needs)
+    (λ c. search needs)
+    (λ c. search needs)
+    (λ c. search needs)
+    (λ c. search needs)
+    (λ c. search needs)
+    (λ c. search needs)
+    (λ c. search needs)
+    (λ c κs. search needs)
+    (λ c. search needs)
+    (λ c. search needs)
+    (λ c. search needs)
+    (λ c. search needs)
+    (λ c. search needs)
     returns
     returns-2
     returns-3

@@ -7,13 +7,10 @@ use Rattle.messages.proofs.Entries.{map-back}
 use Rattle.maps.proofs.entry_of.Statement.{statement}
 use Rattle.maps.proofs.entry_of.Tie as tie
 
-to-entry-requires : tie.Need-to-entry-requires
-to-entry-requires c κs = search needs
-
 returns : tie.Need-returns
 returns c =
     let m = c .before .args .added in
     ap map-of (c .to-entry .ensures) ∙ map-back m (search needs) (search needs) (search needs) (search needs) (search needs)
 
 pub entry-of-spec : {M : Type 1} → statement M
-entry-of-spec = tie.close (tie.spec to-entry-requires returns)
+entry-of-spec = tie.close (tie.spec (λ c κs. search needs) returns)

@@ -8,18 +8,6 @@ use Rattle.maps.proofs.Laws.{mapped-at, mapped-past}
 use Rattle.maps.proofs.map_at.Statement.{statement}
 use Rattle.maps.proofs.map_at.Tie as tie
 
-mul-from-entry : tie.Need-mul-from-entry
-mul-from-entry c = search needs
-
-shared-slice-read-from-entry : tie.Need-shared-slice-read-from-entry
-shared-slice-read-from-entry c = search needs
-
-from-entry-requires : tie.Need-from-entry-requires
-from-entry-requires c κs = search needs
-
-default-requires : tie.Need-default-requires
-default-requires c κs = search needs
-
 returns : tie.Need-returns
 returns c = let s = c .before .before .before .before in c .from-entry .ensures ∙ sym (mapped-at (now (s .args .entries)) (s .args .i) (omega arith))
 
@@ -30,9 +18,9 @@ pub map-at-spec : {M : Type 1} → statement M
 map-at-spec =
     tie.close
     (tie.spec
-    mul-from-entry
-    shared-slice-read-from-entry
-    from-entry-requires
-    default-requires
+    (λ c. search needs)
+    (λ c. search needs)
+    (λ c κs. search needs)
+    (λ c κs. search needs)
     returns
     returns-2)

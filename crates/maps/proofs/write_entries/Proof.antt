@@ -14,17 +14,8 @@ use Rattle.maps.proofs.Laws.{same-frame}
 use Rattle.maps.proofs.write_entries.Statement.{statement}
 use Rattle.maps.proofs.write_entries.Tie as tie
 
-array-share-prefix-entries : tie.Need-array-share-prefix-entries
-array-share-prefix-entries c = search needs
-
 slice-aggregate-write : tie.Need-slice-aggregate-write
 slice-aggregate-write c = let s = c .before .before .before in sym (length-take-le (s .args .n) (s .args .t4) (omega (arith, s .good .1 .1 .1 .0 .1 .0 .1, s .pre)))
-
-write-requires : tie.Need-write-requires
-write-requires c κs = search needs
-
-same-length : tie.Need-same-length
-same-length c = search needs
 
 returns : tie.Need-returns
 returns c =
@@ -38,4 +29,4 @@ returns c =
 pub write-entries-spec : {M : Type 1} → statement M
 write-entries-spec =
     tie.close
-    (tie.spec array-share-prefix-entries slice-aggregate-write write-requires same-length returns)
+    (tie.spec (λ c. search needs) slice-aggregate-write (λ c κs. search needs) (λ c. search needs) returns)

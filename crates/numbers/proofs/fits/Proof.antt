@@ -11,48 +11,6 @@ use borrow.Author.Needs.{needs}
 use Rattle.numbers.proofs.fits.Statement.{statement}
 use Rattle.numbers.proofs.fits.Tie as tie
 
-fits-requires : tie.Need-fits-requires
-fits-requires c κs = search needs
-
-fits-requires-2 : tie.Need-fits-requires-2
-fits-requires-2 c κs = search needs
-
-fits-requires-3 : tie.Need-fits-requires-3
-fits-requires-3 c κs = search needs
-
-fits-requires-4 : tie.Need-fits-requires-4
-fits-requires-4 c κs = search needs
-
-fits-requires-5 : tie.Need-fits-requires-5
-fits-requires-5 c κs = search needs
-
-fits-requires-6 : tie.Need-fits-requires-6
-fits-requires-6 c κs = search needs
-
-fits-requires-7 : tie.Need-fits-requires-7
-fits-requires-7 c κs = search needs
-
-fits-requires-8 : tie.Need-fits-requires-8
-fits-requires-8 c κs = search needs
-
-fits-requires-9 : tie.Need-fits-requires-9
-fits-requires-9 c κs = search needs
-
-fits-requires-10 : tie.Need-fits-requires-10
-fits-requires-10 c κs = search needs
-
-fits-requires-11 : tie.Need-fits-requires-11
-fits-requires-11 c κs = search needs
-
-fits-requires-12 : tie.Need-fits-requires-12
-fits-requires-12 c κs = search needs
-
-fits-requires-13 : tie.Need-fits-requires-13
-fits-requires-13 c κs = search needs
-
-fits-requires-14 : tie.Need-fits-requires-14
-fits-requires-14 c κs = search needs
-
 returns : tie.Need-returns
 returns c =
     c .fits2 .ensures
@@ -132,20 +90,20 @@ pub fits-spec : {M : Type 1} → statement M
 fits-spec =
     tie.close
     (tie.spec
-    fits-requires
-    fits-requires-2
-    fits-requires-3
-    fits-requires-4
-    fits-requires-5
-    fits-requires-6
-    fits-requires-7
-    fits-requires-8
-    fits-requires-9
-    fits-requires-10
-    fits-requires-11
-    fits-requires-12
-    fits-requires-13
-    fits-requires-14
+    (λ c κs. search needs)
+    (λ c κs. search needs)
+    (λ c κs. search needs)
+    (λ c κs. search needs)
+    (λ c κs. search needs)
+    (λ c κs. search needs)
+    (λ c κs. search needs)
+    (λ c κs. search needs)
+    (λ c κs. search needs)
+    (λ c κs. search needs)
+    (λ c κs. search needs)
+    (λ c κs. search needs)
+    (λ c κs. search needs)
+    (λ c κs. search needs)
     returns
     returns-2
     returns-3

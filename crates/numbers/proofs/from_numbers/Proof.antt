@@ -21,12 +21,6 @@ returns : tie.Need-returns
 unfolding message-of
 returns c = rw (lt-ltb _ _ (c .if1 .taken))
 
-number-at-requires : tie.Need-number-at-requires
-number-at-requires c κs = search needs
-
-fits-type-requires : tie.Need-fits-type-requires
-fits-type-requires c κs = search needs
-
 returns-2 : tie.Need-returns-2
 unfolding message-of
 returns-2 c =
@@ -35,12 +29,6 @@ returns-2 c =
     rw (le-ltb _ _ (n .before .if1 .left))
     (sym (given-none (value Device (getD (now (s .args .v)) 1 0)) (misfit Device) _
     (ap (fit Device) (sym (n .number-at .ensures)) ∙ sym (c .before .fits-type .ensures) ∙ not-true _ (c .if2 .taken))))
-
-number-at-requires-2 : tie.Need-number-at-requires-2
-number-at-requires-2 c κs = search needs
-
-fits-requires : tie.Need-fits-requires
-fits-requires c κs = search needs
 
 returns-3 : tie.Need-returns-3
 unfolding message-of
@@ -55,12 +43,6 @@ returns-3 c =
     let o = ap (λ (x : ℕ). fits-any (rows-of x) v) (sym (q .before .number-at2 .ensures)) ∙ sym (q .fits2 .ensures) ∙ not-true _ (c .if3 .taken) in
     rw (le-ltb _ _ (n .before .if1 .left))
     (sym (whole-is v k e ∙ ap (λ (b : Bool). message-if b (taken Device (getD v 1 0)) (first-message (rows-of k) v)) o))
-
-device-at-requires : tie.Need-device-at-requires
-device-at-requires c κs = search needs
-
-message-requires : tie.Need-message-requires
-message-requires c κs = search needs
 
 returns-4 : tie.Need-returns-4
 unfolding message-of
@@ -83,12 +65,12 @@ from-numbers-spec =
     tie.close
     (tie.spec
     returns
-    number-at-requires
-    fits-type-requires
+    (λ c κs. search needs)
+    (λ c κs. search needs)
     returns-2
-    number-at-requires-2
-    fits-requires
+    (λ c κs. search needs)
+    (λ c κs. search needs)
     returns-3
-    device-at-requires
-    message-requires
+    (λ c κs. search needs)
+    (λ c κs. search needs)
     returns-4)

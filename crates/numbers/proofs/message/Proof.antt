@@ -11,48 +11,6 @@ use borrow.Author.Needs.{needs}
 use Rattle.numbers.proofs.message.Statement.{statement}
 use Rattle.numbers.proofs.message.Tie as tie
 
-message-requires : tie.Need-message-requires
-message-requires c κs = search needs
-
-message-requires-2 : tie.Need-message-requires-2
-message-requires-2 c κs = search needs
-
-message-requires-3 : tie.Need-message-requires-3
-message-requires-3 c κs = search needs
-
-message-requires-4 : tie.Need-message-requires-4
-message-requires-4 c κs = search needs
-
-message-requires-5 : tie.Need-message-requires-5
-message-requires-5 c κs = search needs
-
-message-requires-6 : tie.Need-message-requires-6
-message-requires-6 c κs = search needs
-
-message-requires-7 : tie.Need-message-requires-7
-message-requires-7 c κs = search needs
-
-message-requires-8 : tie.Need-message-requires-8
-message-requires-8 c κs = search needs
-
-message-requires-9 : tie.Need-message-requires-9
-message-requires-9 c κs = search needs
-
-message-requires-10 : tie.Need-message-requires-10
-message-requires-10 c κs = search needs
-
-message-requires-11 : tie.Need-message-requires-11
-message-requires-11 c κs = search needs
-
-message-requires-12 : tie.Need-message-requires-12
-message-requires-12 c κs = search needs
-
-message-requires-13 : tie.Need-message-requires-13
-message-requires-13 c κs = search needs
-
-message-requires-14 : tie.Need-message-requires-14
-message-requires-14 c κs = search needs
-
 returns : tie.Need-returns
 returns c =
     c .message .ensures
@@ -132,20 +90,20 @@ pub message-spec : {M : Type 1} → statement M
 message-spec =
     tie.close
     (tie.spec
-    message-requires
-    message-requires-2
-    message-requires-3
-    message-requires-4
-    message-requires-5
-    message-requires-6
-    message-requires-7
-    message-requires-8
-    message-requires-9
-    message-requires-10
-    message-requires-11
-    message-requires-12
-    message-requires-13
-    message-requires-14
+    (λ c κs. search needs)
+    (λ c κs. search needs)
+    (λ c κs. search needs)
+    (λ c κs. search needs)
+    (λ c κs. search needs)
+    (λ c κs. search needs)
+    (λ c κs. search needs)
+    (λ c κs. search needs)
+    (λ c κs. search needs)
+    (λ c κs. search needs)
+    (λ c κs. search needs)
+    (λ c κs. search needs)
+    (λ c κs. search needs)
+    (λ c κs. search needs)
     returns
     returns-2
     returns-3

@@ -14,9 +14,6 @@ use Rattle.rates.proofs.Cents.{fitting, number, halves, top}
 use Rattle.rates.proofs.cents_to_u14.Statement.{statement}
 use Rattle.rates.proofs.cents_to_u14.Tie as tie
 
-scaled-cents-requires : tie.Need-scaled-cents-requires
-scaled-cents-requires c κs = search needs
-
 float-to-float-nearest : tie.Need-float-to-float-nearest
 float-to-float-nearest c =
     let x = c .before .before .args .cents in
@@ -26,9 +23,6 @@ float-to-bits-nearest : tie.Need-float-to-bits-nearest
 float-to-bits-nearest c =
     let x = c .before .before .args .cents in
     subst (λ (p : Float). T (not (isNan p))) (sym (c .before .scaled-cents .ensures)) (number x)
-
-nearest-requires : tie.Need-nearest-requires
-nearest-requires c κs = search needs
 
 known : (c : tie.After-nearest) → c .nearest .result ≡ cents-of (c .before .before .before .args .cents)
 known c =
@@ -47,9 +41,9 @@ pub cents-to-u14-spec : {M : Type 1} → statement M
 cents-to-u14-spec =
     tie.close
     (tie.spec
-    scaled-cents-requires
+    (λ c κs. search needs)
     float-to-float-nearest
     float-to-bits-nearest
-    nearest-requires
+    (λ c κs. search needs)
     cast-result
     returns)

@@ -7,12 +7,6 @@ use Rattle.rates.proofs.Join.{one-rounding, joined}
 use Rattle.rates.proofs.join_rate.Statement.{statement}
 use Rattle.rates.proofs.join_rate.Tie as tie
 
-int-to-float-result : tie.Need-int-to-float-result
-int-to-float-result c = search needs
-
-int-to-float-result-2 : tie.Need-int-to-float-result-2
-int-to-float-result-2 c = search needs
-
 returns : tie.Need-returns
 unfolding ofBits
 returns c =
@@ -22,4 +16,4 @@ returns c =
     one-rounding w f (start .fits .whole .fits) (start .fits .fraction .fits) ∙ joined w f
 
 pub join-rate-spec : {M : Type 1} → statement M
-join-rate-spec = tie.close (tie.spec int-to-float-result int-to-float-result-2 returns)
+join-rate-spec = tie.close (tie.spec (λ c. search needs) (λ c. search needs) returns)

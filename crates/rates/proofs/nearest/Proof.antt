@@ -13,11 +13,5 @@ half h = omega arith
 returns : tie.Need-returns
 returns c = half (c .digits-above .result) ∙ ap (λ (h : ℕ). (h + 1) / 2) (c .digits-above .ensures)
 
-digits-above-requires : tie.Need-digits-above-requires
-digits-above-requires c κs = search needs
-
-add-result : tie.Need-add-result
-add-result c = search needs
-
 pub nearest-spec : {M : Type 1} → statement M
-nearest-spec = tie.close (tie.spec digits-above-requires add-result returns)
+nearest-spec = tie.close (tie.spec (λ c κs. search needs) (λ c. search needs) returns)

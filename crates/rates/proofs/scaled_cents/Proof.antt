@@ -7,12 +7,9 @@ use Rattle.rates.specs.Cents.{hundred, full, scaled-of}
 use Rattle.rates.proofs.scaled_cents.Statement.{statement}
 use Rattle.rates.proofs.scaled_cents.Tie as tie
 
-hold-cents-requires : tie.Need-hold-cents-requires
-hold-cents-requires c κs = search needs
-
 returns : tie.Need-returns
 unfolding ofBits scaled-of
 returns c = ap (λ (z : Float). mul binary32 (div binary32 z hundred) full) (c .hold-cents .ensures)
 
 pub scaled-cents-spec : {M : Type 1} → statement M
-scaled-cents-spec = tie.close (tie.spec hold-cents-requires returns)
+scaled-cents-spec = tie.close (tie.spec (λ c κs. search needs) returns)

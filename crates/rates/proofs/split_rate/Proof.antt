@@ -40,18 +40,12 @@ float-to-bits-digits-above : tie.Need-float-to-bits-digits-above
 unfolding ofBits
 float-to-bits-digits-above c = number (c .before .before .args .rate) (c .before .if1 .taken)
 
-digits-above-requires : tie.Need-digits-above-requires
-digits-above-requires c κs = search needs
-
 int-to-float-rest : tie.Need-int-to-float-rest
 unfolding inFloat
 int-to-float-rest c = le→leb (c .before .digits-above .result) (2 ^ 53) (le-of-lt (lt-of-lt-of-le (known (c .before) .small) (lit≤ tt)))
 
 float-to-bits-digits-above-2 : tie.Need-float-to-bits-digits-above-2
 float-to-bits-digits-above-2 c = known (c .before) .number
-
-digits-above-requires-2 : tie.Need-digits-above-requires-2
-digits-above-requires-2 c κs = search needs
 
 cast-t11 : tie.Need-cast-t11
 cast-t11 c = record { fits = lt-of-lt-of-le (known (c .before .before) .small) (lit≤ tt) }
@@ -64,10 +58,10 @@ split-rate-spec =
     tie.close
     (tie.spec
     float-to-bits-digits-above
-    digits-above-requires
+    (λ c κs. search needs)
     int-to-float-rest
     float-to-bits-digits-above-2
-    digits-above-requires-2
+    (λ c κs. search needs)
     cast-t11
     cast-t12
     returns

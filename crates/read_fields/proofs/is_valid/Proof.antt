@@ -14,39 +14,21 @@ use Rattle.read_fields.proofs.is_valid.Tie as tie
 read-as : {h g : Head} → h ≡ g → (f : List ℕ) → is-read (form g .read f) ≡ is-read (form h .read f)
 read-as e f = ap (λ (x : Head). is-read (form x .read f)) (sym e)
 
-enum-told : tie.Need-enum-told
-enum-told c = search needs
-
-is-packet-requires : tie.Need-is-packet-requires
-is-packet-requires c κs = search needs
-
-enum-told-2 : tie.Need-enum-told-2
-enum-told-2 c = search needs
-
-is-key-dump-requires : tie.Need-is-key-dump-requires
-is-key-dump-requires c κs = search needs
-
-says-requires : tie.Need-says-requires
-says-requires c κs = search needs
-
 returns : tie.Need-returns
 returns c = c .is-packet .ensures ∙ read-as (c .before .enum-told .given .1) (now (c .before .before .before .before .args .f))
 
 returns-2 : tie.Need-returns-2
 returns-2 c = c .is-key-dump .ensures ∙ read-as (c .before .enum-told2 .given .1) (now (c .before .before .before .before .args .f))
 
-returns-3 : tie.Need-returns-3
-returns-3 c = search needs
-
 pub is-valid-spec : {M : Type 1} → statement M
 is-valid-spec =
     tie.close
     (tie.spec
-    enum-told
-    is-packet-requires
-    enum-told-2
-    is-key-dump-requires
-    says-requires
+    (λ c. search needs)
+    (λ c κs. search needs)
+    (λ c. search needs)
+    (λ c κs. search needs)
+    (λ c κs. search needs)
     returns
     returns-2
-    returns-3)
+    (λ c. search needs))

@@ -9,15 +9,6 @@ use borrow.Author.Needs.{needs}
 use Rattle.read_fields.proofs.says.Statement.{statement}
 use Rattle.read_fields.proofs.says.Tie as tie
 
-fields-of-requires : tie.Need-fields-of-requires
-fields-of-requires c κs = search needs
-
-enum-told : tie.Need-enum-told
-enum-told c = search needs
-
-enum-told-2 : tie.Need-enum-told-2
-enum-told-2 c = search needs
-
 returns : tie.Need-returns
 returns c = let s = c .before .before .before .before in
     reads-is (s .args .h) (now (s .args .f)) (subst (λ (r : Found). Reads (s .args .h) r (now (s .args .f))) (c .enum-told .given .1) (c .before .before .fields-of .ensures))
@@ -27,4 +18,4 @@ returns-2 c = let s = c .before .before .before .before in
     reads-not (s .args .h) (now (s .args .f)) (subst (λ (r : Found). Reads (s .args .h) r (now (s .args .f))) (c .enum-told2 .given .1) (c .before .before .fields-of .ensures))
 
 pub says-spec : {M : Type 1} → statement M
-says-spec = tie.close (tie.spec fields-of-requires enum-told enum-told-2 returns returns-2)
+says-spec = tie.close (tie.spec (λ c κs. search needs) (λ c. search needs) (λ c. search needs) returns returns-2)

@@ -33,23 +33,8 @@ over-is o =
 returns : tie.Need-returns
 returns c = let s = c .before .before in reads-none head.FileDumpPacket _ (packet-short (now (s .args .f)) (s .pre) (c .if1 .taken))
 
-sub-data-size : tie.Need-sub-data-size
-sub-data-size c = search needs
-
-data-size-requires : tie.Need-data-size-requires
-data-size-requires c κs = search needs
-
 returns-2 : tie.Need-returns-2
 returns-2 c = let w = c .before in let s = start w in reads-none head.FileDumpPacket _ (packet-long (now (s .args .f)) (s .pre) (w .before .if1 .left) (omega (arith, size-is w, c .if2 .taken)))
-
-at-requires : tie.Need-at-requires
-at-requires c κs = search needs
-
-wide-requires : tie.Need-wide-requires
-wide-requires c κs = search needs
-
-add-if3 : tie.Need-add-if3
-add-if3 c = search needs
 
 returns-3 : tie.Need-returns-3
 returns-3 c =
@@ -59,23 +44,8 @@ returns-3 c =
     (packet-count (now (s .args .f)) (s .pre) (w .before .if1 .left)
     λ e. c .if3 .taken (count-is (c .before) ∙ e ∙ sym (ap (λ (m : ℕ). m + m / 7) (size-is w))))
 
-sub-is-none-over : tie.Need-sub-is-none-over
-sub-is-none-over c = search needs
-
-part-is-none-over-start : tie.Need-part-is-none-over-start
-part-is-none-over-start c = search needs
-
-part-is-none-over-end : tie.Need-part-is-none-over-end
-part-is-none-over-end c = search needs
-
 is-none-over-requires : tie.Need-is-none-over-requires
 is-none-over-requires c κs = let s = start (c .before .before .before .before .before) in rw (tail-drop (now (s .args .f)) 2) (seven-drop 2 (now (s .args .f)) (s .pre))
-
-u7-at-requires : tie.Need-u7-at-requires
-u7-at-requires c κs = search needs
-
-packet-of-requires : tie.Need-packet-of-requires
-packet-of-requires c κs = search needs
 
 returns-4 : tie.Need-returns-4
 returns-4 c =
@@ -98,18 +68,18 @@ packet-spec =
     tie.close
     (tie.spec
     returns
-    sub-data-size
-    data-size-requires
+    (λ c. search needs)
+    (λ c κs. search needs)
     returns-2
-    at-requires
-    wide-requires
-    add-if3
+    (λ c κs. search needs)
+    (λ c κs. search needs)
+    (λ c. search needs)
     returns-3
-    sub-is-none-over
-    part-is-none-over-start
-    part-is-none-over-end
+    (λ c. search needs)
+    (λ c. search needs)
+    (λ c. search needs)
     is-none-over-requires
-    u7-at-requires
-    packet-of-requires
+    (λ c κs. search needs)
+    (λ c κs. search needs)
     returns-4
     returns-5)

@@ -16,24 +16,15 @@ returns c =
     let s = c .before .before in
     reads-none head.FileReferenceClose _ (close-size (now (s .args .f)) (s .pre) (c .if1 .taken))
 
-at-requires : tie.Need-at-requires
-at-requires c κs = search needs
-
 returns-2 : tie.Need-returns-2
 returns-2 c =
     let s = c .before .before .before .before in
     reads-none head.FileReferenceClose _ (close-not (now (s .args .f)) (s .pre) (λ a b. c .if2 .taken (c .before .at .ensures ∙ a)))
 
-at-requires-2 : tie.Need-at-requires-2
-at-requires-2 c κs = search needs
-
 returns-3 : tie.Need-returns-3
 returns-3 c =
     let s = c .before .before .before .before .before .before in
     reads-none head.FileReferenceClose _ (close-not (now (s .args .f)) (s .pre) (λ a b. c .if3 .taken (c .before .at2 .ensures ∙ b)))
-
-u14-at-requires : tie.Need-u14-at-requires
-u14-at-requires c κs = search needs
 
 returns-4 : tie.Need-returns-4
 returns-4 c =
@@ -50,4 +41,4 @@ returns-4 c =
 pub close-spec : {M : Type 1} → statement M
 close-spec =
     tie.close
-    (tie.spec returns at-requires returns-2 at-requires-2 returns-3 u14-at-requires returns-4)
+    (tie.spec returns (λ c κs. search needs) returns-2 (λ c κs. search needs) returns-3 (λ c κs. search needs) returns-4)

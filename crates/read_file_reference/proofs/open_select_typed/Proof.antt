@@ -14,9 +14,6 @@ use Rattle.read_file_reference.proofs.Laws.OpenSelects.{both-endless, b
 use Rattle.read_file_reference.proofs.open_select_typed.Statement.{statement}
 use Rattle.read_file_reference.proofs.open_select_typed.Tie as tie
 
-url-end-requires : tie.Need-url-end-requires
-url-end-requires c κs = search needs
-
 returns : tie.Need-returns
 returns c =
     let s = c .before .before .before in
@@ -30,21 +27,6 @@ returns-2 c =
     let f = now (s .args .f) in
     let e = c .before .before .url-end .ensures in
     reads-none head.FileReferenceOpenSelect _ (both-long f (s .pre .0) (s .pre .1) (s .args .file-type) (s .pre .2) (omega (arith, c .before .if1 .left)) (omega (arith, c .if2 .taken)))
-
-add-map-for : tie.Need-add-map-for
-add-map-for c = search needs
-
-map-for-requires : tie.Need-map-for-requires
-map-for-requires c κs = search needs
-
-enum-known-map : tie.Need-enum-known-map
-enum-known-map c = search needs
-
-said-requires : tie.Need-said-requires
-said-requires c κs = search needs
-
-sub-if3 : tie.Need-sub-if3
-sub-if3 c = search needs
 
 add-if3 : tie.Need-add-if3
 add-if3 c =
@@ -69,15 +51,6 @@ returns-3 c =
     let v = c .before .said .ensures in
     reads-none head.FileReferenceOpenSelect _
     (found-unsaid f (s .pre .0) (s .pre .1) t (s .pre .2) (omega arith) (omega arith) j (omega arith) p (λ x. c .if3 .taken (omega arith)))
-
-u14-at-requires : tie.Need-u14-at-requires
-u14-at-requires c κs = search needs
-
-sub-t12 : tie.Need-sub-t12
-sub-t12 c = search needs
-
-enum-told : tie.Need-enum-told
-enum-told c = search needs
 
 returns-4 : tie.Need-returns-4
 returns-4 c =
@@ -111,18 +84,18 @@ pub open-select-typed-spec : {M : Type 1} → statement M
 open-select-typed-spec =
     tie.close
     (tie.spec
-    url-end-requires
+    (λ c κs. search needs)
     returns
     returns-2
-    add-map-for
-    map-for-requires
-    enum-known-map
-    said-requires
-    sub-if3
+    (λ c. search needs)
+    (λ c κs. search needs)
+    (λ c. search needs)
+    (λ c κs. search needs)
+    (λ c. search needs)
     add-if3
     returns-3
-    u14-at-requires
-    sub-t12
-    enum-told
+    (λ c κs. search needs)
+    (λ c. search needs)
+    (λ c. search needs)
     returns-4
     returns-5)

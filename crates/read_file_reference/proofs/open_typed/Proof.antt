@@ -10,9 +10,6 @@ use Rattle.read_file_reference.proofs.Laws.Heads.{open-endless, open-lo
 use Rattle.read_file_reference.proofs.open_typed.Statement.{statement}
 use Rattle.read_file_reference.proofs.open_typed.Tie as tie
 
-url-end-requires : tie.Need-url-end-requires
-url-end-requires c κs = search needs
-
 returns : tie.Need-returns
 returns c =
     let s = c .before .before .before in
@@ -27,9 +24,6 @@ returns-2 c =
     let e = c .before .before .url-end .ensures in
     reads-none head.FileReferenceOpen _ (open-long f (s .pre .0) (s .pre .1) (s .args .file-type) (s .pre .2) (omega (arith, c .before .if1 .left)) (omega (arith, c .if2 .taken)))
 
-add-if3 : tie.Need-add-if3
-add-if3 c = search needs
-
 returns-3 : tie.Need-returns-3
 returns-3 c =
     let s = c .before .before .before .before .before in
@@ -39,12 +33,6 @@ returns-3 c =
     let g = c .before .if2 .left in
     reads-none head.FileReferenceOpen _
     (open-more f (s .pre .0) (s .pre .1) (s .args .file-type) (s .pre .2) (omega arith) (omega arith) (λ x. c .if3 .taken (omega arith)))
-
-said-requires : tie.Need-said-requires
-said-requires c κs = search needs
-
-sub-if4 : tie.Need-sub-if4
-sub-if4 c = search needs
 
 returns-4 : tie.Need-returns-4
 returns-4 c =
@@ -57,12 +45,6 @@ returns-4 c =
     let v = c .before .said .ensures in
     reads-none head.FileReferenceOpen _
     (open-said f (s .pre .0) (s .pre .1) (s .args .file-type) (s .pre .2) (omega arith) (omega arith) (omega arith) (λ x. c .if4 .taken (omega arith)))
-
-u14-at-requires : tie.Need-u14-at-requires
-u14-at-requires c κs = search needs
-
-sub-t4 : tie.Need-sub-t4
-sub-t4 c = search needs
 
 returns-5 : tie.Need-returns-5
 returns-5 c =
@@ -82,14 +64,14 @@ pub open-typed-spec : {M : Type 1} → statement M
 open-typed-spec =
     tie.close
     (tie.spec
-    url-end-requires
+    (λ c κs. search needs)
     returns
     returns-2
-    add-if3
+    (λ c. search needs)
     returns-3
-    said-requires
-    sub-if4
+    (λ c κs. search needs)
+    (λ c. search needs)
     returns-4
-    u14-at-requires
-    sub-t4
+    (λ c κs. search needs)
+    (λ c. search needs)
     returns-5)

@@ -13,21 +13,6 @@ use Rattle.read_file_reference.proofs.Laws.Maps.{entries-part}
 use Rattle.read_file_reference.proofs.put_maps.Statement.{statement}
 use Rattle.read_file_reference.proofs.put_maps.Tie as tie
 
-sub-put-first : tie.Need-sub-put-first
-sub-put-first c = search needs
-
-part-put-first-start : tie.Need-part-put-first-start
-part-put-first-start c = search needs
-
-part-put-first-end : tie.Need-part-put-first-end
-part-put-first-end c = search needs
-
-put-first-requires : tie.Need-put-first-requires
-put-first-requires c κs = search needs
-
-same-length : tie.Need-same-length
-same-length c = search needs
-
 returns : tie.Need-returns
 returns c =
     let a = c .before .before .before .before .before .before .before .args in
@@ -40,9 +25,9 @@ pub put-maps-spec : {M : Type 1} → statement M
 put-maps-spec =
     tie.close
     (tie.spec
-    sub-put-first
-    part-put-first-start
-    part-put-first-end
-    put-first-requires
-    same-length
+    (λ c. search needs)
+    (λ c. search needs)
+    (λ c. search needs)
+    (λ c κs. search needs)
+    (λ c. search needs)
     returns)

@@ -15,14 +15,8 @@ returns c =
     let f = now (s .args .f) in
     reads-none head.SelectSoundFile _ (select-short bank-length bank-select bank-short f (s .pre) (c .if1 .taken))
 
-bank-map-at-requires : tie.Need-bank-map-at-requires
-bank-map-at-requires c κs = search needs
-
-select-of-requires : tie.Need-select-of-requires
-select-of-requires c κs = search needs
-
 returns-2 : tie.Need-returns-2
 returns-2 c = c .select-of .ensures .0 (c .before .bank-map-at .ensures)
 
 pub select-bank-spec : {M : Type 1} → statement M
-select-bank-spec = tie.close (tie.spec returns bank-map-at-requires select-of-requires returns-2)
+select-bank-spec = tie.close (tie.spec returns (λ c κs. search needs) (λ c κs. search needs) returns-2)

@@ -12,12 +12,6 @@ use Rattle.read_file_reference.proofs.Laws.Selects.{bank-nothing, bank-
 use Rattle.read_file_reference.proofs.select_of.Statement.{statement}
 use Rattle.read_file_reference.proofs.select_of.Tie as tie
 
-enum-known-p : tie.Need-enum-known-p
-enum-known-p c = search needs
-
-said-requires : tie.Need-said-requires
-said-requires c κs = search needs
-
 returns : tie.Need-returns
 returns c =
     let s = c .before .before .before .before .before .before in
@@ -26,12 +20,6 @@ returns c =
       λ k. reads-none head.SelectSoundFile _ (bank-unsaid f (s .pre .0) (s .pre .1) (subst (λ (q : Picked). Picks bank-only q f 4) e k) (λ v. c .if1 .taken (c .before .said .ensures ∙ v))),
       λ k. reads-none head.SelectWAV _ (wav-unsaid f (s .pre .0) (s .pre .1) (subst (λ (q : Picked). Picks wav-only q f 4) e k) (λ v. c .if1 .taken (c .before .said .ensures ∙ v))),
     )
-
-u14-at-requires : tie.Need-u14-at-requires
-u14-at-requires c κs = search needs
-
-enum-told : tie.Need-enum-told
-enum-told c = search needs
 
 returns-2 : tie.Need-returns-2
 returns-2 c =
@@ -54,4 +42,4 @@ returns-3 c =
 pub select-of-spec : {M : Type 1} → statement M
 select-of-spec =
     tie.close
-    (tie.spec enum-known-p said-requires returns u14-at-requires enum-told returns-2 returns-3)
+    (tie.spec (λ c. search needs) (λ c κs. search needs) returns (λ c κs. search needs) (λ c. search needs) returns-2 returns-3)

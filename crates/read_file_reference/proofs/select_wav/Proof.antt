@@ -15,14 +15,8 @@ returns c =
     let f = now (s .args .f) in
     reads-none head.SelectWAV _ (select-short wav-length wav-select wav-short f (s .pre) (c .if1 .taken))
 
-wav-map-at-requires : tie.Need-wav-map-at-requires
-wav-map-at-requires c κs = search needs
-
-select-of-requires : tie.Need-select-of-requires
-select-of-requires c κs = search needs
-
 returns-2 : tie.Need-returns-2
 returns-2 c = c .select-of .ensures .1 (c .before .wav-map-at .ensures)
 
 pub select-wav-spec : {M : Type 1} → statement M
-select-wav-spec = tie.close (tie.spec returns wav-map-at-requires select-of-requires returns-2)
+select-wav-spec = tie.close (tie.spec returns (λ c κs. search needs) (λ c κs. search needs) returns-2)

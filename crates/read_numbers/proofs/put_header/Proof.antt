@@ -32,44 +32,17 @@ add-a c = let s = c .before .before in let a = s .args in omega (arith, long-eno
 add-e : tie.Need-add-e
 add-e c = let s = c .before .before in let a = s .args in omega (arith, long-enough (now (a .frame)) head.SampleDumpHeader (a .start) (a .end) (a .sum) (s .pre .1), s .pre .1 .2, s .good .0)
 
-sub-header : tie.Need-sub-header
-sub-header c = search needs
-
-part-header-start : tie.Need-part-header-start
-part-header-start c = search needs
-
 part-header-end : tie.Need-part-header-end
 part-header-end c = let s = c .before .before in let a = s .args in omega (arith, long-enough (now (a .frame)) head.SampleDumpHeader (a .start) (a .end) (a .sum) (s .pre .1), s .pre .1 .2, s .good .0)
 
 header-requires : tie.Need-header-requires
 header-requires c κs = let s = c .before .before .before in let a = s .args in fields-seven (now (a .frame)) head.SampleDumpHeader (a .start) (a .end) (a .sum) (s .pre .1)
 
-enum-known-m : tie.Need-enum-known-m
-enum-known-m c = search needs
-
-returns : tie.Need-returns
-returns c = search needs
-
-at-requires : tie.Need-at-requires
-at-requires c κs = search needs
-
-device-of-requires : tie.Need-device-of-requires
-device-of-requires c κs = search needs
-
 text-start-requires : tie.Need-text-start-requires
 text-start-requires c κs = let v = c .before .before .before .before .before in
     let s = st v in
     let a = s .args in
     begins-within (now (a .frame)) head.SampleDumpHeader (a .start) (a .end) (a .sum) (s .pre .1) (reads v)
-
-put-sample-requires : tie.Need-put-sample-requires
-put-sample-requires c κs = search needs
-
-enum-told : tie.Need-enum-told
-enum-told c = search needs
-
-same-length : tie.Need-same-length
-same-length c = search needs
 
 returns-2 : tie.Need-returns-2
 returns-2 c = let p = c .before .before in
@@ -83,30 +56,24 @@ returns-2 c = let p = c .before .before in
     (plain-met (now (a .frame)) head.SampleDumpHeader (a .start) (a .end) (a .sum) (s .pre .1) (reads v) (i .before .if1 .left) (i .if2 .taken) (d .device-of .result) (b .text-start .result)
     (d .device-of .ensures ∙ ap device-of (d .before .at .ensures)) (b .text-start .ensures))
 
-returns-3 : tie.Need-returns-3
-returns-3 c = search needs
-
-returns-4 : tie.Need-returns-4
-returns-4 c = search needs
-
 pub put-header-spec : {M : Type 1} → statement M
 put-header-spec =
     tie.close
     (tie.spec
     add-a
     add-e
-    sub-header
-    part-header-start
+    (λ c. search needs)
+    (λ c. search needs)
     part-header-end
     header-requires
-    enum-known-m
-    returns
-    at-requires
-    device-of-requires
+    (λ c. search needs)
+    (λ c. search needs)
+    (λ c κs. search needs)
+    (λ c κs. search needs)
     text-start-requires
-    put-sample-requires
-    enum-told
-    same-length
+    (λ c κs. search needs)
+    (λ c. search needs)
+    (λ c. search needs)
     returns-2
-    returns-3
-    returns-4)
+    (λ c. search needs)
+    (λ c. search needs))

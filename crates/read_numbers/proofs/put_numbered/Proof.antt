@@ -13,15 +13,6 @@ use borrow.Author.Needs.{needs}
 use Rattle.read_numbers.proofs.put_numbered.Statement.{statement}
 use Rattle.read_numbers.proofs.put_numbered.Tie as tie
 
-device-of-requires : tie.Need-device-of-requires
-device-of-requires c κs = search needs
-
-device-number-requires : tie.Need-device-number-requires
-device-number-requires c κs = search needs
-
-slice-write-answer : tie.Need-slice-write-answer
-slice-write-answer c = search needs
-
 slice-write-answer-2 : tie.Need-slice-write-answer-2
 slice-write-answer-2 c = simp length-set (omega arith)
 
@@ -40,9 +31,6 @@ slice-write-answer-6 c = simp length-set (omega arith)
 slice-write-answer-7 : tie.Need-slice-write-answer-7
 slice-write-answer-7 c = simp length-set (omega arith)
 
-same-length : tie.Need-same-length
-same-length c = search needs
-
 returns : tie.Need-returns
 returns c = let s = c .before .before .before in
     let l = now (s .args .answer) in
@@ -53,14 +41,14 @@ pub put-numbered-spec : {M : Type 1} → statement M
 put-numbered-spec =
     tie.close
     (tie.spec
-    device-of-requires
-    device-number-requires
-    slice-write-answer
+    (λ c κs. search needs)
+    (λ c κs. search needs)
+    (λ c. search needs)
     slice-write-answer-2
     slice-write-answer-3
     slice-write-answer-4
     slice-write-answer-5
     slice-write-answer-6
     slice-write-answer-7
-    same-length
+    (λ c. search needs)
     returns)

@@ -10,18 +10,12 @@ use borrow.Author.Needs.{needs}
 use Rattle.read_numbers.proofs.put_plain.Statement.{statement}
 use Rattle.read_numbers.proofs.put_plain.Tie as tie
 
-enum-told : tie.Need-enum-told
-enum-told c = search needs
-
 put-header-requires : tie.Need-put-header-requires
 put-header-requires c κs = let s = c .before .before .before .before .before in
     let a = s .args in (
       s .pre .0,
       subst (λ (h : Head). placed (opening.Fields h (a .start) (a .end) (a .sum)) (inner (now (a .frame)))) (c .before .enum-told .given .1) (s .pre .1),
     )
-
-same-length : tie.Need-same-length
-same-length c = search needs
 
 returns : tie.Need-returns
 returns c = let p = c .before .before in
@@ -31,8 +25,5 @@ returns c = let p = c .before .before in
     (λ (h : Head). ReadPlain (p .put-header .result) (opens-as (opening.Fields h (s .args .start) (s .args .end) (s .args .sum)) (inner f)) f (now (s .args .answer)) (p .put-header .last .1 .1 .1 .1 .0))
     (sym (p .before .before .enum-told .given .1)) (p .put-header .ensures)
 
-returns-2 : tie.Need-returns-2
-returns-2 c = search needs
-
 pub put-plain-spec : {M : Type 1} → statement M
-put-plain-spec = tie.close (tie.spec enum-told put-header-requires same-length returns returns-2)
+put-plain-spec = tie.close (tie.spec (λ c. search needs) put-header-requires (λ c. search needs) returns (λ c. search needs))

@@ -14,21 +14,6 @@ use borrow.Author.Needs.{needs}
 use Rattle.read_numbers.proofs.put_reading.Statement.{statement}
 use Rattle.read_numbers.proofs.put_reading.Tie as tie
 
-sub-to-numbers : tie.Need-sub-to-numbers
-sub-to-numbers c = search needs
-
-part-to-numbers-start : tie.Need-part-to-numbers-start
-part-to-numbers-start c = search needs
-
-part-to-numbers-end : tie.Need-part-to-numbers-end
-part-to-numbers-end c = search needs
-
-to-numbers-requires : tie.Need-to-numbers-requires
-to-numbers-requires c κs = search needs
-
-slice-write-answer : tie.Need-slice-write-answer
-slice-write-answer c = search needs
-
 slice-write-answer-2 : tie.Need-slice-write-answer-2
 slice-write-answer-2 c = simp length-set (omega (arith, behind-length (now (c .before .before .before .before .before .args .answer)) _ (numbers-of (c .before .before .before .before .before .args .device) (c .before .before .before .before .before .args .m)) (c .before .before .before .before .before .pre) (at-most-16 (c .before .before .before .before .before .args .device) (c .before .before .before .before .before .args .m)) (c .before .before .to-numbers .ensures .1)))
 
@@ -52,11 +37,11 @@ pub put-reading-spec : {M : Type 1} → statement M
 put-reading-spec =
     tie.close
     (tie.spec
-    sub-to-numbers
-    part-to-numbers-start
-    part-to-numbers-end
-    to-numbers-requires
-    slice-write-answer
+    (λ c. search needs)
+    (λ c. search needs)
+    (λ c. search needs)
+    (λ c κs. search needs)
+    (λ c. search needs)
     slice-write-answer-2
     slice-write-answer-3
     slice-write-answer-4

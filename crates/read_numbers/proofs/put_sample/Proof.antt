@@ -47,27 +47,6 @@ long : (c : tie.After-slice-known2)
     → length (putMid 4 (length (now (st c .args .answer)) - 4) (now (st c .args .answer)) (c .before .before .put-message .last .0)) ≡ length (now (st c .args .answer))
 long c = behind-length (now (st c .args .answer)) _ (row c) (st c .pre) (at-most-16 (st c .args .device) (msg.SampleDump (dump c))) (told c .there)
 
-enum-known-m : tie.Need-enum-known-m
-enum-known-m c = search needs
-
-device-number-requires : tie.Need-device-number-requires
-device-number-requires c κs = search needs
-
-sub-put-message : tie.Need-sub-put-message
-sub-put-message c = search needs
-
-part-put-message-start : tie.Need-part-put-message-start
-part-put-message-start c = search needs
-
-part-put-message-end : tie.Need-part-put-message-end
-part-put-message-end c = search needs
-
-put-message-requires : tie.Need-put-message-requires
-put-message-requires c κs = search needs
-
-slice-write-answer : tie.Need-slice-write-answer
-slice-write-answer c = search needs
-
 slice-write-answer-2 : tie.Need-slice-write-answer-2
 slice-write-answer-2 c = simp length-set (omega (arith, long c))
 
@@ -77,32 +56,26 @@ slice-write-answer-3 c = simp length-set (omega (arith, long c))
 slice-write-answer-4 : tie.Need-slice-write-answer-4
 slice-write-answer-4 c = simp length-set (omega (arith, long c))
 
-same-length : tie.Need-same-length
-same-length c = search needs
-
 returns : tie.Need-returns
 returns c = let a = st c .args in
     behind-four (now (a .answer)) _ (row c) (st c .pre) (at-most-16 (a .device) (msg.SampleDump (dump c))) (told c .there) _ _ _ _
     ∙ ap (λ (n : ℕ). front (n ∷ a .from ∷ a .len ∷ 0 ∷ row c) (now (a .answer))) (told c .count)
     ∙ ap (λ (m : UniversalNonRealTimeMsg). front (reading-numbers (Frame (a .device) m (a .from) (a .len) 0)) (now (a .answer))) (sym (c .before .before .before .before .before .before .m .given .1))
 
-returns-2 : tie.Need-returns-2
-returns-2 c = search needs
-
 pub put-sample-spec : {M : Type 1} → statement M
 put-sample-spec =
     tie.close
     (tie.spec
-    enum-known-m
-    device-number-requires
-    sub-put-message
-    part-put-message-start
-    part-put-message-end
-    put-message-requires
-    slice-write-answer
+    (λ c. search needs)
+    (λ c κs. search needs)
+    (λ c. search needs)
+    (λ c. search needs)
+    (λ c. search needs)
+    (λ c κs. search needs)
+    (λ c. search needs)
     slice-write-answer-2
     slice-write-answer-3
     slice-write-answer-4
-    same-length
+    (λ c. search needs)
     returns
-    returns-2)
+    (λ c. search needs))

@@ -20,32 +20,8 @@ opened : (v : tie.After-h)
     → Opens (opening.Fields (v .h .given .0 .0) (v .h .given .0 .1 .0) (v .h .given .0 .1 .1 .0) (v .h .given .0 .1 .1 .1 .0)) (inner (now (st v .args .frame))) (readOf (st v .args .kind) (now (st v .args .frame)))
 opened v = subst (λ (r : Opening). Opens r (inner (now (st v .args .frame))) (readOf (st v .args .kind) (now (st v .args .frame)))) (v .h .given .1) (v .before .before .opening-in .ensures)
 
-opening-in-requires : tie.Need-opening-in-requires
-opening-in-requires c κs = search needs
-
-enum-known-h : tie.Need-enum-known-h
-enum-known-h c = search needs
-
 read-opened-requires : tie.Need-read-opened-requires
 read-opened-requires c κs = let v = c .before .before .before .before in (st v .pre, opened v .part)
-
-enum-known-r : tie.Need-enum-known-r
-enum-known-r c = search needs
-
-number-requires : tie.Need-number-requires
-number-requires c κs = search needs
-
-cast-result : tie.Need-cast-result
-cast-result c = search needs
-
-same-length : tie.Need-same-length
-same-length c = search needs
-
-same-length-2 : tie.Need-same-length-2
-same-length-2 c = search needs
-
-same-length-3 : tie.Need-same-length-3
-same-length-3 c = search needs
 
 returns : tie.Need-returns
 returns c = let l = c .before .before .before .before .before .before in
@@ -68,14 +44,14 @@ pub read-any-spec : {M : Type 1} → statement M
 read-any-spec =
     tie.close
     (tie.spec
-    opening-in-requires
-    enum-known-h
+    (λ c κs. search needs)
+    (λ c. search needs)
     read-opened-requires
-    enum-known-r
-    number-requires
-    cast-result
-    same-length
-    same-length-2
-    same-length-3
+    (λ c. search needs)
+    (λ c κs. search needs)
+    (λ c. search needs)
+    (λ c. search needs)
+    (λ c. search needs)
+    (λ c. search needs)
     returns
     returns-2)

@@ -7,28 +7,10 @@ use borrow.Author.Needs.{needs}
 use Rattle.read_numbers.proofs.read_for.Statement.{statement}
 use Rattle.read_numbers.proofs.read_for.Tie as tie
 
-put-handshake-requires : tie.Need-put-handshake-requires
-put-handshake-requires c κs = search needs
-
-same-length : tie.Need-same-length
-same-length c = search needs
-
 returns : tie.Need-returns
 returns c = let h = c .before .before .before in
     let s = h .before .before .before .before .before .before in
     plain-to (readOf (s .args .kind) (now (s .args .frame))) (now (s .args .frame)) (now (s .args .answer)) _ (h .put-handshake .result) (h .put-handshake .ensures (s .args .kind)) (c .if1 .taken) (now (s .args .«data»)) (now (s .args .entries))
-
-read-any-requires : tie.Need-read-any-requires
-read-any-requires c κs = search needs
-
-same-length-2 : tie.Need-same-length-2
-same-length-2 c = search needs
-
-same-length-3 : tie.Need-same-length-3
-same-length-3 c = search needs
-
-same-length-4 : tie.Need-same-length-4
-same-length-4 c = search needs
 
 returns-2 : tie.Need-returns-2
 returns-2 c = let r = c .before .before .before .before .before .before in
@@ -41,11 +23,11 @@ pub read-for-spec : {M : Type 1} → statement M
 read-for-spec =
     tie.close
     (tie.spec
-    put-handshake-requires
-    same-length
+    (λ c κs. search needs)
+    (λ c. search needs)
     returns
-    read-any-requires
-    same-length-2
-    same-length-3
-    same-length-4
+    (λ c κs. search needs)
+    (λ c. search needs)
+    (λ c. search needs)
+    (λ c. search needs)
     returns-2)

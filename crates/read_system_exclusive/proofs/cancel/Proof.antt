@@ -10,12 +10,6 @@ use borrow.Author.Needs.{needs}
 use Rattle.read_system_exclusive.proofs.cancel.Statement.{statement}
 use Rattle.read_system_exclusive.proofs.cancel.Tie as tie
 
-is-zero-requires : tie.Need-is-zero-requires
-is-zero-requires c κs = search needs
-
-numbers-requires : tie.Need-numbers-requires
-numbers-requires c κs = search needs
-
 returns : tie.Need-returns
 returns c =
     let f = now (c .before .before .before .before .args .f) in
@@ -27,4 +21,4 @@ returns-2 c =
     reads-none head.Cancel f (zero-not f (sym (c .before .is-zero .ensures) ∙ c .if1 .left))
 
 pub cancel-spec : {M : Type 1} → statement M
-cancel-spec = tie.close (tie.spec is-zero-requires numbers-requires returns returns-2)
+cancel-spec = tie.close (tie.spec (λ c κs. search needs) (λ c κs. search needs) returns returns-2)

@@ -15,23 +15,11 @@ use borrow.Author.Needs.{needs}
 use Rattle.read_system_exclusive.proofs.extended_reply.Statement.{statement}
 use Rattle.read_system_exclusive.proofs.extended_reply.Tie as tie
 
-shared-slice-read-if1 : tie.Need-shared-slice-read-if1
-shared-slice-read-if1 c = search needs
-
 returns : tie.Need-returns
 returns c =
     let s = c .before .before .before in
     let f = now (s .args .f) in
     reads-none head.IdentityReply f (reply-not f (one-byte-size f (λ e. omega (arith, s .pre .1))) (extended-maker-not f (c .if1 .taken)))
-
-u7-at-requires : tie.Need-u7-at-requires
-u7-at-requires c κs = search needs
-
-u7-at-requires-2 : tie.Need-u7-at-requires-2
-u7-at-requires-2 c κs = search needs
-
-reply-of-requires : tie.Need-reply-of-requires
-reply-of-requires c κs = search needs
 
 returns-2 : tie.Need-returns-2
 returns-2 c =
@@ -45,9 +33,9 @@ pub extended-reply-spec : {M : Type 1} → statement M
 extended-reply-spec =
     tie.close
     (tie.spec
-    shared-slice-read-if1
+    (λ c. search needs)
     returns
-    u7-at-requires
-    u7-at-requires-2
-    reply-of-requires
+    (λ c κs. search needs)
+    (λ c κs. search needs)
+    (λ c κs. search needs)
     returns-2)

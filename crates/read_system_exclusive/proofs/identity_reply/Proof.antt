@@ -8,18 +8,6 @@ use borrow.Author.Needs.{needs}
 use Rattle.read_system_exclusive.proofs.identity_reply.Statement.{statement}
 use Rattle.read_system_exclusive.proofs.identity_reply.Tie as tie
 
-one-byte-reply-requires : tie.Need-one-byte-reply-requires
-one-byte-reply-requires c κs = search needs
-
-returns : tie.Need-returns
-returns c = search needs
-
-extended-reply-requires : tie.Need-extended-reply-requires
-extended-reply-requires c κs = search needs
-
-returns-2 : tie.Need-returns-2
-returns-2 c = search needs
-
 returns-3 : tie.Need-returns-3
 returns-3 c =
     let f = now (c .before .before .before .args .f) in
@@ -28,4 +16,4 @@ returns-3 c =
 pub identity-reply-spec : {M : Type 1} → statement M
 identity-reply-spec =
     tie.close
-    (tie.spec one-byte-reply-requires returns extended-reply-requires returns-2 returns-3)
+    (tie.spec (λ c κs. search needs) (λ c. search needs) (λ c κs. search needs) (λ c. search needs) returns-3)

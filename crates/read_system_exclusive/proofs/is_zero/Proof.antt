@@ -9,11 +9,8 @@ use Rattle.read_system_exclusive.proofs.is_zero.Tie as tie
 returns : tie.Need-returns
 returns c = one-zero-size (now (c .before .args .f)) (c .if1 .taken)
 
-shared-slice-read-result : tie.Need-shared-slice-read-result
-shared-slice-read-result c = search needs
-
 returns-2 : tie.Need-returns-2
 returns-2 c = one-zero-get (now (c .before .before .args .f)) (c .before .if1 .left)
 
 pub is-zero-spec : {M : Type 1} → statement M
-is-zero-spec = tie.close (tie.spec returns shared-slice-read-result returns-2)
+is-zero-spec = tie.close (tie.spec returns (λ c. search needs) returns-2)

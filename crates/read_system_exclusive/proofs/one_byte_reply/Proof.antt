@@ -15,9 +15,6 @@ use borrow.Author.Needs.{needs}
 use Rattle.read_system_exclusive.proofs.one_byte_reply.Statement.{statement}
 use Rattle.read_system_exclusive.proofs.one_byte_reply.Tie as tie
 
-shared-slice-read-maker : tie.Need-shared-slice-read-maker
-shared-slice-read-maker c = search needs
-
 returns : tie.Need-returns
 returns c =
     let s = c .before .before .before in
@@ -30,9 +27,6 @@ returns-2 c =
     let f = now (s .args .f) in
     reads-none head.IdentityReply f (reply-not f (one-byte-maker-not f (λ h. omega (arith, c .if2 .taken))) (extended-size f (λ e. omega (arith, s .pre .1))))
 
-reply-of-requires : tie.Need-reply-of-requires
-reply-of-requires c κs = search needs
-
 returns-3 : tie.Need-returns-3
 returns-3 c =
     let s = c .before .before .before .before .before in
@@ -43,4 +37,4 @@ returns-3 c =
 
 pub one-byte-reply-spec : {M : Type 1} → statement M
 one-byte-reply-spec =
-    tie.close (tie.spec shared-slice-read-maker returns returns-2 reply-of-requires returns-3)
+    tie.close (tie.spec (λ c. search needs) returns returns-2 (λ c κs. search needs) returns-3)

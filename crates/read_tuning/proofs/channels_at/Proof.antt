@@ -8,15 +8,6 @@ use borrow.Author.Needs.{needs}
 use Rattle.read_tuning.proofs.channels_at.Statement.{statement}
 use Rattle.read_tuning.proofs.channels_at.Tie as tie
 
-u7-at-requires : tie.Need-u7-at-requires
-u7-at-requires c κs = search needs
-
-u7-at-requires-2 : tie.Need-u7-at-requires-2
-u7-at-requires-2 c κs = search needs
-
-u7-at-requires-3 : tie.Need-u7-at-requires-3
-u7-at-requires-3 c κs = search needs
-
 channels-of-requires : tie.Need-channels-of-requires
 channels-of-requires c κs =
     let s = c .before .before .before .before in
@@ -32,4 +23,4 @@ returns c = let b = c .before in rw (c .channels-of .ensures, b .u7-at3 .ensures
 pub channels-at-spec : {M : Type 1} → statement M
 channels-at-spec =
     tie.close
-    (tie.spec u7-at-requires u7-at-requires-2 u7-at-requires-3 channels-of-requires returns)
+    (tie.spec (λ c κs. search needs) (λ c κs. search needs) (λ c κs. search needs) channels-of-requires returns)

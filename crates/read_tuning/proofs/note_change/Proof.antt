@@ -19,30 +19,12 @@ use Rattle.read_tuning.proofs.note_change.Tie as tie
 returns : tie.Need-returns
 returns c = let s = c .before .before in reads-none head.TuningNoteChange _ (changes-not (now (s .args .f)) (s .pre) (λ m n. omega (arith, c .if1 .taken)))
 
-u7-at-requires : tie.Need-u7-at-requires
-u7-at-requires c κs = search needs
-
-cast-n : tie.Need-cast-n
-cast-n c = search needs
-
-mul-if2 : tie.Need-mul-if2
-mul-if2 c = search needs
-
-add-if2 : tie.Need-add-if2
-add-if2 c = search needs
-
 returns-2 : tie.Need-returns-2
 returns-2 c =
     let s = c .before .before .before .before in
     let e = c .before .u7-at .ensures in
     reads-none head.TuningNoteChange _
     (changes-not (now (s .args .f)) (s .pre) (λ m n. c .if2 .taken (n ∙ ap (λ (v : ℕ). 3 + 4 * v) (sym e))))
-
-u7-at-requires-2 : tie.Need-u7-at-requires-2
-u7-at-requires-2 c κs = search needs
-
-u7-at-requires-3 : tie.Need-u7-at-requires-3
-u7-at-requires-3 c κs = search needs
 
 returns-3 : tie.Need-returns-3
 returns-3 c =
@@ -64,11 +46,11 @@ note-change-spec =
     tie.close
     (tie.spec
     returns
-    u7-at-requires
-    cast-n
-    mul-if2
-    add-if2
+    (λ c κs. search needs)
+    (λ c. search needs)
+    (λ c. search needs)
+    (λ c. search needs)
     returns-2
-    u7-at-requires-2
-    u7-at-requires-3
+    (λ c κs. search needs)
+    (λ c κs. search needs)
     returns-3)

@@ -14,18 +14,6 @@ use Rattle.read_tuning.proofs.scale_2.Tie as tie
 returns : tie.Need-returns
 returns c = let s = c .before .before in reads-none head.ScaleTuning2Byte _ (scale-2-size (now (s .args .f)) (s .pre) (c .if1 .taken))
 
-channels-at-requires : tie.Need-channels-at-requires
-channels-at-requires c κs = search needs
-
-enum-known-set : tie.Need-enum-known-set
-enum-known-set c = search needs
-
-scale-2-at-requires : tie.Need-scale-2-at-requires
-scale-2-at-requires c κs = search needs
-
-enum-told : tie.Need-enum-told
-enum-told c = search needs
-
 returns-2 : tie.Need-returns-2
 returns-2 c =
     let m = c .before .before .before .before in
@@ -49,9 +37,9 @@ scale-2-spec =
     tie.close
     (tie.spec
     returns
-    channels-at-requires
-    enum-known-set
-    scale-2-at-requires
-    enum-told
+    (λ c κs. search needs)
+    (λ c. search needs)
+    (λ c κs. search needs)
+    (λ c. search needs)
     returns-2
     returns-3)

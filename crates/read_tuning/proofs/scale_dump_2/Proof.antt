@@ -14,15 +14,6 @@ use Rattle.read_tuning.proofs.scale_dump_2.Tie as tie
 returns : tie.Need-returns
 returns c = let s = c .before .before in reads-none head.ScaleTuningDump2Byte _ (scale-dump-2-size (now (s .args .f)) (s .pre) (c .if1 .taken))
 
-u7-at-requires : tie.Need-u7-at-requires
-u7-at-requires c κs = search needs
-
-u7-at-requires-2 : tie.Need-u7-at-requires-2
-u7-at-requires-2 c κs = search needs
-
-scale-2-at-requires : tie.Need-scale-2-at-requires
-scale-2-at-requires c κs = search needs
-
 returns-2 : tie.Need-returns-2
 returns-2 c =
     let s = c .before .before .before .before .before in
@@ -35,4 +26,4 @@ returns-2 c =
 
 pub scale-dump-2-spec : {M : Type 1} → statement M
 scale-dump-2-spec =
-    tie.close (tie.spec returns u7-at-requires u7-at-requires-2 scale-2-at-requires returns-2)
+    tie.close (tie.spec returns (λ c κs. search needs) (λ c κs. search needs) (λ c κs. search needs) returns-2)

@@ -38,23 +38,8 @@ T v = v .h .given .0 .1 .1 .1 .0
 opened : (v : tie.After-h) → Opens (opening.Fields (H v) (S v) (E v) (T v)) (inner (frame v)) (readOf (st v .args .kind) (frame v))
 opened v = subst (λ (r : Opening). Opens r (inner (frame v)) (readOf (st v .args .kind) (frame v))) (v .h .given .1) (v .before .before .opening-in .ensures)
 
-opening-in-requires : tie.Need-opening-in-requires
-opening-in-requires c κs = search needs
-
-enum-known-h : tie.Need-enum-known-h
-enum-known-h c = search needs
-
 read-part-requires : tie.Need-read-part-requires
 read-part-requires c κs = opened (c .before .before .before) .part
-
-enum-known-n : tie.Need-enum-known-n
-enum-known-n c = search needs
-
-same-length : tie.Need-same-length
-same-length c = search needs
-
-same-length-2 : tie.Need-same-length-2
-same-length-2 c = search needs
 
 returns : tie.Need-returns
 returns c = let l = c .before .before .before .before in
@@ -75,11 +60,11 @@ pub read-spec : {M : Type 1} → statement M
 read-spec =
     tie.close
     (tie.spec
-    opening-in-requires
-    enum-known-h
+    (λ c κs. search needs)
+    (λ c. search needs)
     read-part-requires
-    enum-known-n
-    same-length
-    same-length-2
+    (λ c. search needs)
+    (λ c. search needs)
+    (λ c. search needs)
     returns
     returns-2)

@@ -8,15 +8,6 @@ use borrow.Author.Needs.{needs}
 use Rattle.to_numbers.proofs.to_numbers.Statement.{statement}
 use Rattle.to_numbers.proofs.to_numbers.Tie as tie
 
-device-number-requires : tie.Need-device-number-requires
-device-number-requires c κs = search needs
-
-put-message-requires : tie.Need-put-message-requires
-put-message-requires c κs = search needs
-
-same-length : tie.Need-same-length
-same-length c = search needs
-
 returns : tie.Need-returns
 unfolding numbers-of
 returns c =
@@ -25,4 +16,4 @@ returns c =
 
 pub to-numbers-spec : {M : Type 1} → statement M
 to-numbers-spec =
-    tie.close (tie.spec device-number-requires put-message-requires same-length returns)
+    tie.close (tie.spec (λ c κs. search needs) (λ c κs. search needs) (λ c. search needs) returns)

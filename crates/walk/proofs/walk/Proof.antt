@@ -19,12 +19,6 @@ use Rattle.walk.proofs.walk.Tie as tie
 returns : tie.Need-returns
 returns c = let p = c .before .before .before .args in met-long (p .kind) (p .stream .now) (p .index .now) (c .if1 .taken)
 
-list-requires : tie.Need-list-requires
-list-requires c κs = search needs
-
-same-length : tie.Need-same-length
-same-length c = search needs
-
 returns-2 : tie.Need-returns-2
 returns-2 c =
     let p = c .before .before .before .before .before .before .before .before .args in
@@ -38,12 +32,6 @@ slice-relend-prefix-list c = search needs
 slice-aggregate-list : tie.Need-slice-aggregate-list
 slice-aggregate-list c = sym (length-take-le _ (c .before .before .before .before .before .args .index .now) (slice-relend-prefix-list (c .before)))
 
-list-requires-2 : tie.Need-list-requires-2
-list-requires-2 c κs = search needs
-
-same-length-2 : tie.Need-same-length-2
-same-length-2 c = search needs
-
 returns-3 : tie.Need-returns-3
 returns-3 c =
     let p = c .before .before .before .before .before .before .before .before .before .args in
@@ -51,12 +39,6 @@ returns-3 c =
     let e : call .last .1 .1 .0 ++ p .index .now ≡ p .index .now = no-part (call .last .1 .1 .0) (p .index .now) (call .kept .1 .1 .0) in
     subst (WalkMet (Refused Index (call .result)) (p .kind) (p .stream .now) (p .index .now)) (sym e)
     (met-many (p .kind) (p .stream .now) (p .index .now) (c .before .before .before .before .before .before .if1 .left) (call .result) (call .ensures .0) (c .if3 .taken))
-
-list-requires-3 : tie.Need-list-requires-3
-list-requires-3 c κs = search needs
-
-same-length-3 : tie.Need-same-length-3
-same-length-3 c = search needs
 
 returns-4 : tie.Need-returns-4
 returns-4 c =
@@ -71,14 +53,14 @@ walk-spec =
     tie.close
     (tie.spec
     returns
-    list-requires
-    same-length
+    (λ c κs. search needs)
+    (λ c. search needs)
     returns-2
     slice-relend-prefix-list
     slice-aggregate-list
-    list-requires-2
-    same-length-2
+    (λ c κs. search needs)
+    (λ c. search needs)
     returns-3
-    list-requires-3
-    same-length-3
+    (λ c κs. search needs)
+    (λ c. search needs)
     returns-4)

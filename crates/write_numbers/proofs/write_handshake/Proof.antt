@@ -17,24 +17,6 @@ use Rattle.write_numbers.proofs.Laws.{made-by, made-not, wrote, unwritt
 use Rattle.write_numbers.proofs.write_handshake.Statement.{statement}
 use Rattle.write_numbers.proofs.write_handshake.Tie as tie
 
-is-one-byte-requires : tie.Need-is-one-byte-requires
-is-one-byte-requires c κs = search needs
-
-device-at-requires : tie.Need-device-at-requires
-device-at-requires c κs = search needs
-
-u8-at-requires : tie.Need-u8-at-requires
-u8-at-requires c κs = search needs
-
-write-handshake-requires : tie.Need-write-handshake-requires
-write-handshake-requires c κs = search needs
-
-told-requires : tie.Need-told-requires
-told-requires c κs = search needs
-
-same-length : tie.Need-same-length
-same-length c = search needs
-
 returns : tie.Need-returns
 returns c =
     let s = c .before .before .before .before .before .before in
@@ -62,11 +44,11 @@ pub write-handshake-spec : {M : Type 1} → statement M
 write-handshake-spec =
     tie.close
     (tie.spec
-    is-one-byte-requires
+    (λ c κs. search needs)
     returns
-    device-at-requires
-    u8-at-requires
-    write-handshake-requires
-    told-requires
-    same-length
+    (λ c κs. search needs)
+    (λ c κs. search needs)
+    (λ c κs. search needs)
+    (λ c κs. search needs)
+    (λ c. search needs)
     returns-2)

@@ -8,42 +8,6 @@ use Rattle.write_numbers.proofs.Laws.{made-by, made-not, wrote, unwritt
 use Rattle.write_numbers.proofs.write_header.Statement.{statement}
 use Rattle.write_numbers.proofs.write_header.Tie as tie
 
-is-header-requires : tie.Need-is-header-requires
-is-header-requires c κs = search needs
-
-device-at-requires : tie.Need-device-at-requires
-device-at-requires c κs = search needs
-
-u16-at-requires : tie.Need-u16-at-requires
-u16-at-requires c κs = search needs
-
-u8-at-requires : tie.Need-u8-at-requires
-u8-at-requires c κs = search needs
-
-u32-at-requires : tie.Need-u32-at-requires
-u32-at-requires c κs = search needs
-
-u32-at-requires-2 : tie.Need-u32-at-requires-2
-u32-at-requires-2 c κs = search needs
-
-u32-at-requires-3 : tie.Need-u32-at-requires-3
-u32-at-requires-3 c κs = search needs
-
-u32-at-requires-4 : tie.Need-u32-at-requires-4
-u32-at-requires-4 c κs = search needs
-
-loop-type-at-requires : tie.Need-loop-type-at-requires
-loop-type-at-requires c κs = search needs
-
-write-header-requires : tie.Need-write-header-requires
-write-header-requires c κs = search needs
-
-told-requires : tie.Need-told-requires
-told-requires c κs = search needs
-
-same-length : tie.Need-same-length
-same-length c = search needs
-
 returns : tie.Need-returns
 returns c =
     let s = c .before .before .before .before .before .before in
@@ -66,17 +30,17 @@ pub write-header-spec : {M : Type 1} → statement M
 write-header-spec =
     tie.close
     (tie.spec
-    is-header-requires
+    (λ c κs. search needs)
     returns
-    device-at-requires
-    u16-at-requires
-    u8-at-requires
-    u32-at-requires
-    u32-at-requires-2
-    u32-at-requires-3
-    u32-at-requires-4
-    loop-type-at-requires
-    write-header-requires
-    told-requires
-    same-length
+    (λ c κs. search needs)
+    (λ c κs. search needs)
+    (λ c κs. search needs)
+    (λ c κs. search needs)
+    (λ c κs. search needs)
+    (λ c κs. search needs)
+    (λ c κs. search needs)
+    (λ c κs. search needs)
+    (λ c κs. search needs)
+    (λ c κs. search needs)
+    (λ c. search needs)
     returns-2)

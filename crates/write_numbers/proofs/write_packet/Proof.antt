@@ -11,21 +11,6 @@ use Rattle.write_numbers.proofs.write_packet.Tie as tie
 is-one-byte-requires : tie.Need-is-one-byte-requires
 is-one-byte-requires c κs = rw (c .before .before .before .before .pre)
 
-device-at-requires : tie.Need-device-at-requires
-device-at-requires c κs = search needs
-
-u8-at-requires : tie.Need-u8-at-requires
-u8-at-requires c κs = search needs
-
-write-packet-requires : tie.Need-write-packet-requires
-write-packet-requires c κs = search needs
-
-told-requires : tie.Need-told-requires
-told-requires c κs = search needs
-
-same-length : tie.Need-same-length
-same-length c = search needs
-
 returns : tie.Need-returns
 returns c =
     let s = c .before .before .before .before .before .before in
@@ -50,9 +35,9 @@ write-packet-spec =
     (tie.spec
     is-one-byte-requires
     returns
-    device-at-requires
-    u8-at-requires
-    write-packet-requires
-    told-requires
-    same-length
+    (λ c κs. search needs)
+    (λ c κs. search needs)
+    (λ c κs. search needs)
+    (λ c κs. search needs)
+    (λ c. search needs)
     returns-2)

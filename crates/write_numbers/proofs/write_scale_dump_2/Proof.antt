@@ -8,30 +8,6 @@ use Rattle.write_numbers.proofs.Laws.{made-by, made-not, wrote, unwritt
 use Rattle.write_numbers.proofs.write_scale_dump_2.Statement.{statement}
 use Rattle.write_numbers.proofs.write_scale_dump_2.Tie as tie
 
-is-scale-dump-2-requires : tie.Need-is-scale-dump-2-requires
-is-scale-dump-2-requires c κs = search needs
-
-scale-2-requires : tie.Need-scale-2-requires
-scale-2-requires c κs = search needs
-
-device-at-requires : tie.Need-device-at-requires
-device-at-requires c κs = search needs
-
-u8-at-requires : tie.Need-u8-at-requires
-u8-at-requires c κs = search needs
-
-u8-at-requires-2 : tie.Need-u8-at-requires-2
-u8-at-requires-2 c κs = search needs
-
-write-scale-dump-2-requires : tie.Need-write-scale-dump-2-requires
-write-scale-dump-2-requires c κs = search needs
-
-told-requires : tie.Need-told-requires
-told-requires c κs = search needs
-
-same-length : tie.Need-same-length
-same-length c = search needs
-
 returns : tie.Need-returns
 returns c =
     let s = c .before .before .before .before .before .before in
@@ -54,13 +30,13 @@ pub write-scale-dump-2-spec : {M : Type 1} → statement M
 write-scale-dump-2-spec =
     tie.close
     (tie.spec
-    is-scale-dump-2-requires
+    (λ c κs. search needs)
     returns
-    scale-2-requires
-    device-at-requires
-    u8-at-requires
-    u8-at-requires-2
-    write-scale-dump-2-requires
-    told-requires
-    same-length
+    (λ c κs. search needs)
+    (λ c κs. search needs)
+    (λ c κs. search needs)
+    (λ c κs. search needs)
+    (λ c κs. search needs)
+    (λ c κs. search needs)
+    (λ c. search needs)
     returns-2)

@@ -6,12 +6,6 @@ use Rattle.writer.proofs.Laws.Sums.{total-is}
 use Rattle.writer.proofs.admitted_length.Statement.{statement}
 use Rattle.writer.proofs.admitted_length.Tie as tie
 
-sizes-of-requires : tie.Need-sizes-of-requires
-sizes-of-requires c κs = search needs
-
-total-of-requires : tie.Need-total-of-requires
-total-of-requires c κs = search needs
-
 returns : tie.Need-returns
 returns c =
     let z = c .before in
@@ -19,4 +13,4 @@ returns c =
     total-is (z .sizes-of .result) (s .args .device) (s .args .m) (now (s .args .text)) (now (s .args .entries)) _ (z .sizes-of .ensures) (c .total-of .ensures)
 
 pub admitted-length-spec : {M : Type 1} → statement M
-admitted-length-spec = tie.close (tie.spec sizes-of-requires total-of-requires returns)
+admitted-length-spec = tie.close (tie.spec (λ c κs. search needs) (λ c κs. search needs) returns)

@@ -10,19 +10,10 @@ use Rattle.writer.proofs.Laws.Answers.{told-none, told-some, bytes-all,
 use Rattle.writer.proofs.frame_length.Statement.{statement}
 use Rattle.writer.proofs.frame_length.Tie as tie
 
-refused-requires : tie.Need-refused-requires
-refused-requires c κs = search needs
-
-enum-told : tie.Need-enum-told
-enum-told c = search needs
-
 admitted-length-requires : tie.Need-admitted-length-requires
 admitted-length-requires c κs =
     let r = c .before .before in
     told-none _ (sym (r .refused .ensures) ∙ c .enum-told .given .1)
-
-enum-known-told : tie.Need-enum-known-told
-enum-known-told c = search needs
 
 returns : tie.Need-returns
 returns c =
@@ -43,9 +34,9 @@ pub frame-length-spec : {M : Type 1} → statement M
 frame-length-spec =
     tie.close
     (tie.spec
-    refused-requires
-    enum-told
+    (λ c κs. search needs)
+    (λ c. search needs)
     admitted-length-requires
-    enum-known-told
+    (λ c. search needs)
     returns
     returns-2)

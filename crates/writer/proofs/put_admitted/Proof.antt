@@ -25,17 +25,11 @@ frame-is h =
     let s = st h in
     frame-by (s .args .s .sum) (h .device-byte .result) (s .args .device) (s .args .m) (now (s .args .text)) (now (s .args .entries)) (s .pre .1 .sum-is) (h .device-byte .ensures)
 
-device-byte-requires : tie.Need-device-byte-requires
-device-byte-requires c κs = search needs
-
 put-frame-requires : tie.Need-put-frame-requires
 put-frame-requires c κs =
     let h = c .before in
     let s = st h in
     (s .pre .0, s .pre .1 .front-is, s .pre .1 .part-is, rw (frame-is h) (s .pre .2))
-
-same-length : tie.Need-same-length
-same-length c = search needs
 
 returns : tie.Need-returns
 returns c =
@@ -45,4 +39,4 @@ returns c =
     p .put-frame .ensures ∙ ap (λ (l : List ℕ). front l (now (s .args .out))) (frame-is h)
 
 pub put-admitted-spec : {M : Type 1} → statement M
-put-admitted-spec = tie.close (tie.spec device-byte-requires put-frame-requires same-length returns)
+put-admitted-spec = tie.close (tie.spec (λ c κs. search needs) put-frame-requires (λ c. search needs) returns)

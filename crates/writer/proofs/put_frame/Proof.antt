@@ -107,9 +107,6 @@ sub-put-front c = rw length-set (omega (arith, room (c .before .before .before))
 part-put-front-start : tie.Need-part-put-front-start
 part-put-front-start c = rw length-set (omega (arith, room (c .before .before .before)))
 
-part-put-front-end : tie.Need-part-put-front-end
-part-put-front-end c = search needs
-
 put-front-requires : tie.Need-put-front-requires
 put-front-requires c κs = let s = c .before .before .before .before in run-room (r1 s) _ (omega (arith, room s, l0 s))
 
@@ -121,9 +118,6 @@ sub-put-part c = let p = c .before .before in omega (arith, room (st p), l2 p, r
 
 part-put-part-start : tie.Need-part-put-part-start
 part-put-part-start c = let p = c .before .before in omega (arith, room (st p), l2 p, run-length (r2 p))
-
-part-put-part-end : tie.Need-part-put-part-end
-part-put-part-end c = search needs
 
 put-part-requires : tie.Need-put-part-requires
 put-part-requires c κs = let p = c .before .before .before in (st p .pre .0, run-room (r2 p) _ (omega (arith, room (st p), l2 p)))
@@ -154,12 +148,12 @@ put-frame-spec =
     slice-write-out
     sub-put-front
     part-put-front-start
-    part-put-front-end
+    (λ c. search needs)
     put-front-requires
     add-a
     sub-put-part
     part-put-part-start
-    part-put-part-end
+    (λ c. search needs)
     put-part-requires
     add-e
     put-sum-requires

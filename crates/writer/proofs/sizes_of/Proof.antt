@@ -15,12 +15,6 @@ part-size-requires c κs =
     let s = c .before .before in
     omega (arith, part-small (s .args .m) (now (s .args .text)) (now (s .args .entries)) (s .pre))
 
-has-sum-requires : tie.Need-has-sum-requires
-has-sum-requires c κs = search needs
-
-front-size-requires : tie.Need-front-size-requires
-front-size-requires c κs = search needs
-
 returns : tie.Need-returns
 returns c =
     let p = c .before .before .part-size in
@@ -34,4 +28,4 @@ returns c =
     }
 
 pub sizes-of-spec : {M : Type 1} → statement M
-sizes-of-spec = tie.close (tie.spec part-size-requires has-sum-requires front-size-requires returns)
+sizes-of-spec = tie.close (tie.spec part-size-requires (λ c κs. search needs) (λ c κs. search needs) returns)

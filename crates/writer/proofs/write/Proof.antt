@@ -9,24 +9,6 @@ use Rattle.writer.proofs.Laws.Handshakes.{handshake-written}
 use Rattle.writer.proofs.write.Statement.{statement}
 use Rattle.writer.proofs.write.Tie as tie
 
-handshake-of-requires : tie.Need-handshake-of-requires
-handshake-of-requires c κs = search needs
-
-enum-known-h : tie.Need-enum-known-h
-enum-known-h c = search needs
-
-write-handshake-requires : tie.Need-write-handshake-requires
-write-handshake-requires c κs = search needs
-
-enum-told : tie.Need-enum-told
-enum-told c = search needs
-
-write-message-requires : tie.Need-write-message-requires
-write-message-requires c κs = search needs
-
-same-length : tie.Need-same-length
-same-length c = search needs
-
 returns : tie.Need-returns
 returns c =
     let w = c .before .before in
@@ -38,9 +20,6 @@ returns c =
     (bytes-all (now (s .args .text)) (λ i. omega (arith, r .before .before .before .shared-slice-known .given i))))
     (w .write-handshake .ensures)
 
-same-length-2 : tie.Need-same-length-2
-same-length-2 c = search needs
-
 returns-2 : tie.Need-returns-2
 returns-2 c = c .before .before .write-message .ensures
 
@@ -48,12 +27,12 @@ pub write-spec : {M : Type 1} → statement M
 write-spec =
     tie.close
     (tie.spec
-    handshake-of-requires
-    enum-known-h
-    write-handshake-requires
-    enum-told
-    write-message-requires
-    same-length
+    (λ c κs. search needs)
+    (λ c. search needs)
+    (λ c κs. search needs)
+    (λ c. search needs)
+    (λ c κs. search needs)
+    (λ c. search needs)
     returns
-    same-length-2
+    (λ c. search needs)
     returns-2)

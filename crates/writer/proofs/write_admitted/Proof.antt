@@ -24,9 +24,6 @@ counted n =
     let s = st n in
     total-is (n .before .sizes-of .result) (s .args .device) (s .args .m) (now (s .args .text)) (now (s .args .entries)) _ (n .before .sizes-of .ensures) (n .total-of .ensures)
 
-sizes-of-requires : tie.Need-sizes-of-requires
-sizes-of-requires c κs = search needs
-
 total-of-requires : tie.Need-total-of-requires
 total-of-requires c κs = (c .sizes-of .ensures .front-few, c .sizes-of .ensures .part-few)
 
@@ -36,9 +33,6 @@ returns c =
     no-room (frame-of (s .args .device) (s .args .m) (now (s .args .text)) (now (s .args .entries))) (now (s .args .out)) (s .args .place)
     (room-past (length (now (s .args .out))) (s .args .place) _ (c .if1 .taken))
 
-sub-if2 : tie.Need-sub-if2
-sub-if2 c = search needs
-
 returns-2 : tie.Need-returns-2
 returns-2 c =
     let n = c .before .before in
@@ -46,23 +40,11 @@ returns-2 c =
     no-room (frame-of (s .args .device) (s .args .m) (now (s .args .text)) (now (s .args .entries))) (now (s .args .out)) (s .args .place)
     (room-short (length (now (s .args .out))) (s .args .place) _ (c .before .if1 .left) (rw (sym (counted n)) (c .if2 .taken)))
 
-sub-put-admitted : tie.Need-sub-put-admitted
-sub-put-admitted c = search needs
-
-part-put-admitted-start : tie.Need-part-put-admitted-start
-part-put-admitted-start c = search needs
-
-part-put-admitted-end : tie.Need-part-put-admitted-end
-part-put-admitted-end c = search needs
-
 put-admitted-requires : tie.Need-put-admitted-requires
 put-admitted-requires c κs =
     let n = c .before .before .before in
     let s = st n in
     (s .pre, n .before .sizes-of .ensures, tail-room (now (s .args .out)) (s .args .place) _ (omega (arith, counted n, c .before .if2 .left, c .before .before .if1 .left)))
-
-same-length : tie.Need-same-length
-same-length c = search needs
 
 returns-3 : tie.Need-returns-3
 returns-3 c =
@@ -80,14 +62,14 @@ pub write-admitted-spec : {M : Type 1} → statement M
 write-admitted-spec =
     tie.close
     (tie.spec
-    sizes-of-requires
+    (λ c κs. search needs)
     total-of-requires
     returns
-    sub-if2
+    (λ c. search needs)
     returns-2
-    sub-put-admitted
-    part-put-admitted-start
-    part-put-admitted-end
+    (λ c. search needs)
+    (λ c. search needs)
+    (λ c. search needs)
     put-admitted-requires
-    same-length
+    (λ c. search needs)
     returns-3)

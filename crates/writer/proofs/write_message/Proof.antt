@@ -9,22 +9,10 @@ use Rattle.writer.proofs.Laws.Answers.{told-none, told-some, bytes-all,
 use Rattle.writer.proofs.write_message.Statement.{statement}
 use Rattle.writer.proofs.write_message.Tie as tie
 
-refused-requires : tie.Need-refused-requires
-refused-requires c κs = search needs
-
-enum-told : tie.Need-enum-told
-enum-told c = search needs
-
 write-admitted-requires : tie.Need-write-admitted-requires
 write-admitted-requires c κs =
     let r = c .before .before .before in
     told-none _ (sym (r .refused .ensures) ∙ c .before .enum-told .given .1)
-
-enum-known-told : tie.Need-enum-known-told
-enum-known-told c = search needs
-
-same-length : tie.Need-same-length
-same-length c = search needs
 
 returns : tie.Need-returns
 returns c =
@@ -48,10 +36,10 @@ pub write-message-spec : {M : Type 1} → statement M
 write-message-spec =
     tie.close
     (tie.spec
-    refused-requires
-    enum-told
+    (λ c κs. search needs)
+    (λ c. search needs)
     write-admitted-requires
-    enum-known-told
-    same-length
+    (λ c. search needs)
+    (λ c. search needs)
     returns
     returns-2)

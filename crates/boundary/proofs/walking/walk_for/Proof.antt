@@ -6,32 +6,11 @@ use borrow.Author.Needs.{needs}
 use Rattle.boundary.proofs.walking.walk_for.Statement.{statement}
 use Rattle.boundary.proofs.walking.walk_for.Tie as tie
 
-walk-requires : tie.Need-walk-requires
-walk-requires c κs = search needs
-
-enum-known-n : tie.Need-enum-known-n
-enum-known-n c = search needs
-
-enum-known-r : tie.Need-enum-known-r
-enum-known-r c = search needs
-
-number-requires : tie.Need-number-requires
-number-requires c κs = search needs
-
-cast-result : tie.Need-cast-result
-cast-result c = search needs
-
-same-length : tie.Need-same-length
-same-length c = search needs
-
 returns : tie.Need-returns
 returns c = let n = c .before in
     let w = n .before .before .before .before in
     let q = sym (n .n .given .1) ∙ w .walk .ensures .says in
     (ap walked-number q, (ap walked-value q, w .walk .ensures .index-is))
-
-same-length-2 : tie.Need-same-length-2
-same-length-2 c = search needs
 
 returns-2 : tie.Need-returns-2
 returns-2 c = let n = c .before .before in
@@ -43,12 +22,12 @@ pub walk-for-spec : {M : Type 1} → statement M
 walk-for-spec =
     tie.close
     (tie.spec
-    walk-requires
-    enum-known-n
-    enum-known-r
-    number-requires
-    cast-result
-    same-length
+    (λ c κs. search needs)
+    (λ c. search needs)
+    (λ c. search needs)
+    (λ c κs. search needs)
+    (λ c. search needs)
+    (λ c. search needs)
     returns
-    same-length-2
+    (λ c. search needs)
     returns-2)

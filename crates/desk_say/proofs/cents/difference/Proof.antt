@@ -6,9 +6,6 @@ use native.Mathlib.Omega.{arith}
 use Rattle.desk_say.proofs.cents.difference.Statement.{statement}
 use Rattle.desk_say.proofs.cents.difference.Tie as tie
 
-sub-t4 : tie.Need-sub-t4
-sub-t4 c = search needs
-
 returns : tie.Need-returns
 returns c = (simp (lt-ltb _ _ (c .if1 .taken)), omega arith)
 
@@ -16,4 +13,4 @@ returns-2 : tie.Need-returns-2
 returns-2 c = (simp (le-ltb _ _ (c .if1 .left)), omega arith)
 
 pub difference-spec : {M : Type 1} → statement M
-difference-spec = tie.close (tie.spec sub-t4 returns returns-2)
+difference-spec = tie.close (tie.spec (λ c. search needs) returns returns-2)

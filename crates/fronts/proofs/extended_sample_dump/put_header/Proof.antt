@@ -18,24 +18,6 @@ rate s = start-2 (s .args .d) 0x05 0x05 ((2, s .args .sample) ∷ (1, clamp 8 28
 abbrev points : tie.Start → List ℕ
 points s = spell ((5, s .args .len) ∷ (5, s .args .start) ∷ (5, s .args .end) ∷ (1, extended-loop-byte (s .args .kind)) ∷ (1, s .args .channels) ∷ [])
 
-put-header-rate-requires : tie.Need-put-header-rate-requires
-put-header-rate-requires c κs = search needs
-
-sub-put-header-points : tie.Need-sub-put-header-points
-sub-put-header-points c = search needs
-
-part-put-header-points-start : tie.Need-part-put-header-points-start
-part-put-header-points-start c = search needs
-
-part-put-header-points-end : tie.Need-part-put-header-points-end
-part-put-header-points-end c = search needs
-
-put-header-points-requires : tie.Need-put-header-points-requires
-put-header-points-requires c κs = search needs
-
-same-length : tie.Need-same-length
-same-length c = search needs
-
 returns : tie.Need-returns
 returns c =
     let p = c .before .before in
@@ -48,10 +30,10 @@ pub put-header-spec : {M : Type 1} → statement M
 put-header-spec =
     tie.close
     (tie.spec
-    put-header-rate-requires
-    sub-put-header-points
-    part-put-header-points-start
-    part-put-header-points-end
-    put-header-points-requires
-    same-length
+    (λ c κs. search needs)
+    (λ c. search needs)
+    (λ c. search needs)
+    (λ c. search needs)
+    (λ c κs. search needs)
+    (λ c. search needs)
     returns)

@@ -6,30 +6,6 @@ use Rattle.fronts.proofs.Laws.{code, field, done, put}
 use Rattle.fronts.proofs.file_reference.put_close.Statement.{statement}
 use Rattle.fronts.proofs.file_reference.put_close.Tie as tie
 
-hold-requires : tie.Need-hold-requires
-hold-requires c κs = search needs
-
-hold-requires-2 : tie.Need-hold-requires-2
-hold-requires-2 c κs = search needs
-
-cast-t10 : tie.Need-cast-t10
-cast-t10 c = search needs
-
-cast-t12 : tie.Need-cast-t12
-cast-t12 c = search needs
-
-cast-t15 : tie.Need-cast-t15
-cast-t15 c = search needs
-
-slice-aggregate-copy : tie.Need-slice-aggregate-copy
-slice-aggregate-copy c = search needs
-
-copy-requires : tie.Need-copy-requires
-copy-requires c κs = search needs
-
-same-length : tie.Need-same-length
-same-length c = search needs
-
 returns : tie.Need-returns
 returns c =
     let h = c .before .before .before .before .before in
@@ -48,12 +24,12 @@ pub put-close-spec : {M : Type 1} → statement M
 put-close-spec =
     tie.close
     (tie.spec
-    hold-requires
-    hold-requires-2
-    cast-t10
-    cast-t12
-    cast-t15
-    slice-aggregate-copy
-    copy-requires
-    same-length
+    (λ c κs. search needs)
+    (λ c κs. search needs)
+    (λ c. search needs)
+    (λ c. search needs)
+    (λ c. search needs)
+    (λ c. search needs)
+    (λ c κs. search needs)
+    (λ c. search needs)
     returns)

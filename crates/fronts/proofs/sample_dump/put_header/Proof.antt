@@ -8,36 +8,6 @@ use Rattle.fronts.proofs.Laws.{code, field, done, put}
 use Rattle.fronts.proofs.sample_dump.put_header.Statement.{statement}
 use Rattle.fronts.proofs.sample_dump.put_header.Tie as tie
 
-hold-requires : tie.Need-hold-requires
-hold-requires c κs = search needs
-
-hold-requires-2 : tie.Need-hold-requires-2
-hold-requires-2 c κs = search needs
-
-hold-requires-3 : tie.Need-hold-requires-3
-hold-requires-3 c κs = search needs
-
-hold-requires-4 : tie.Need-hold-requires-4
-hold-requires-4 c κs = search needs
-
-hold-requires-5 : tie.Need-hold-requires-5
-hold-requires-5 c κs = search needs
-
-hold-requires-6 : tie.Need-hold-requires-6
-hold-requires-6 c κs = search needs
-
-hold-requires-7 : tie.Need-hold-requires-7
-hold-requires-7 c κs = search needs
-
-hold-requires-8 : tie.Need-hold-requires-8
-hold-requires-8 c κs = search needs
-
-put-held-header-requires : tie.Need-put-held-header-requires
-put-held-header-requires c κs = search needs
-
-same-length : tie.Need-same-length
-same-length c = search needs
-
 returns : tie.Need-returns
 returns c =
     let h = c .before .before .before .before in
@@ -59,14 +29,14 @@ pub put-header-spec : {M : Type 1} → statement M
 put-header-spec =
     tie.close
     (tie.spec
-    hold-requires
-    hold-requires-2
-    hold-requires-3
-    hold-requires-4
-    hold-requires-5
-    hold-requires-6
-    hold-requires-7
-    hold-requires-8
-    put-held-header-requires
-    same-length
+    (λ c κs. search needs)
+    (λ c κs. search needs)
+    (λ c κs. search needs)
+    (λ c κs. search needs)
+    (λ c κs. search needs)
+    (λ c κs. search needs)
+    (λ c κs. search needs)
+    (λ c κs. search needs)
+    (λ c κs. search needs)
+    (λ c. search needs)
     returns)

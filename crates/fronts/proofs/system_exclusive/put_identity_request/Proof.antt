@@ -6,21 +6,6 @@ use Rattle.fronts.proofs.Laws.{code, field, done, put}
 use Rattle.fronts.proofs.system_exclusive.put_identity_request.Statement.{statement}
 use Rattle.fronts.proofs.system_exclusive.put_identity_request.Tie as tie
 
-hold-requires : tie.Need-hold-requires
-hold-requires c κs = search needs
-
-cast-t6 : tie.Need-cast-t6
-cast-t6 c = search needs
-
-slice-aggregate-copy : tie.Need-slice-aggregate-copy
-slice-aggregate-copy c = search needs
-
-copy-requires : tie.Need-copy-requires
-copy-requires c κs = search needs
-
-same-length : tie.Need-same-length
-same-length c = search needs
-
 returns : tie.Need-returns
 returns c =
     let h = c .before .before .before .before .before in
@@ -35,4 +20,4 @@ returns c =
 pub put-identity-request-spec : {M : Type 1} → statement M
 put-identity-request-spec =
     tie.close
-    (tie.spec hold-requires cast-t6 slice-aggregate-copy copy-requires same-length returns)
+    (tie.spec (λ c κs. search needs) (λ c. search needs) (λ c. search needs) (λ c κs. search needs) (λ c. search needs) returns)

@@ -8,69 +8,6 @@ use Rattle.fronts.proofs.Laws.{code, field, done, put}
 use Rattle.fronts.proofs.system_exclusive.put_one_byte_reply.Statement.{statement}
 use Rattle.fronts.proofs.system_exclusive.put_one_byte_reply.Tie as tie
 
-hold-requires : tie.Need-hold-requires
-hold-requires c κs = search needs
-
-hold-requires-2 : tie.Need-hold-requires-2
-hold-requires-2 c κs = search needs
-
-hold-requires-3 : tie.Need-hold-requires-3
-hold-requires-3 c κs = search needs
-
-hold-requires-4 : tie.Need-hold-requires-4
-hold-requires-4 c κs = search needs
-
-hold-requires-5 : tie.Need-hold-requires-5
-hold-requires-5 c κs = search needs
-
-hold-requires-6 : tie.Need-hold-requires-6
-hold-requires-6 c κs = search needs
-
-hold-requires-7 : tie.Need-hold-requires-7
-hold-requires-7 c κs = search needs
-
-hold-requires-8 : tie.Need-hold-requires-8
-hold-requires-8 c κs = search needs
-
-cast-t21 : tie.Need-cast-t21
-cast-t21 c = search needs
-
-cast-t23 : tie.Need-cast-t23
-cast-t23 c = search needs
-
-cast-t25 : tie.Need-cast-t25
-cast-t25 c = search needs
-
-cast-t28 : tie.Need-cast-t28
-cast-t28 c = search needs
-
-cast-t30 : tie.Need-cast-t30
-cast-t30 c = search needs
-
-cast-t33 : tie.Need-cast-t33
-cast-t33 c = search needs
-
-cast-t35 : tie.Need-cast-t35
-cast-t35 c = search needs
-
-cast-t37 : tie.Need-cast-t37
-cast-t37 c = search needs
-
-cast-t39 : tie.Need-cast-t39
-cast-t39 c = search needs
-
-cast-t41 : tie.Need-cast-t41
-cast-t41 c = search needs
-
-slice-aggregate-copy : tie.Need-slice-aggregate-copy
-slice-aggregate-copy c = search needs
-
-copy-requires : tie.Need-copy-requires
-copy-requires c κs = search needs
-
-same-length : tie.Need-same-length
-same-length c = search needs
-
 returns : tie.Need-returns
 returns c =
     let h = c .before .before .before .before .before in
@@ -93,25 +30,25 @@ pub put-one-byte-reply-spec : {M : Type 1} → statement M
 put-one-byte-reply-spec =
     tie.close
     (tie.spec
-    hold-requires
-    hold-requires-2
-    hold-requires-3
-    hold-requires-4
-    hold-requires-5
-    hold-requires-6
-    hold-requires-7
-    hold-requires-8
-    cast-t21
-    cast-t23
-    cast-t25
-    cast-t28
-    cast-t30
-    cast-t33
-    cast-t35
-    cast-t37
-    cast-t39
-    cast-t41
-    slice-aggregate-copy
-    copy-requires
-    same-length
+    (λ c κs. search needs)
+    (λ c κs. search needs)
+    (λ c κs. search needs)
+    (λ c κs. search needs)
+    (λ c κs. search needs)
+    (λ c κs. search needs)
+    (λ c κs. search needs)
+    (λ c κs. search needs)
+    (λ c. search needs)
+    (λ c. search needs)
+    (λ c. search needs)
+    (λ c. search needs)
+    (λ c. search needs)
+    (λ c. search needs)
+    (λ c. search needs)
+    (λ c. search needs)
+    (λ c. search needs)
+    (λ c. search needs)
+    (λ c. search needs)
+    (λ c κs. search needs)
+    (λ c. search needs)
     returns)

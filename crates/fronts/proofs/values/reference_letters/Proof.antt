@@ -3,24 +3,6 @@ use borrow.Author.Needs.{needs}
 use Rattle.fronts.proofs.values.reference_letters.Statement.{statement}
 use Rattle.fronts.proofs.values.reference_letters.Tie as tie
 
-enum-told : tie.Need-enum-told
-enum-told c = search needs
-
-letters-of-requires : tie.Need-letters-of-requires
-letters-of-requires c κs = search needs
-
-enum-told-2 : tie.Need-enum-told-2
-enum-told-2 c = search needs
-
-letters-of-requires-2 : tie.Need-letters-of-requires-2
-letters-of-requires-2 c κs = search needs
-
-enum-told-3 : tie.Need-enum-told-3
-enum-told-3 c = search needs
-
-letters-of-requires-3 : tie.Need-letters-of-requires-3
-letters-of-requires-3 c κs = search needs
-
 returns : tie.Need-returns
 returns c = rw (c .before .enum-told .given .1) (c .letters-of .ensures)
 
@@ -34,12 +16,12 @@ pub reference-letters-spec : {M : Type 1} → statement M
 reference-letters-spec =
     tie.close
     (tie.spec
-    enum-told
-    letters-of-requires
-    enum-told-2
-    letters-of-requires-2
-    enum-told-3
-    letters-of-requires-3
+    (λ c. search needs)
+    (λ c κs. search needs)
+    (λ c. search needs)
+    (λ c κs. search needs)
+    (λ c. search needs)
+    (λ c κs. search needs)
     returns
     returns-2
     returns-3)

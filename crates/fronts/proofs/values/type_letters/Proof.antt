@@ -3,48 +3,6 @@ use borrow.Author.Needs.{needs}
 use Rattle.fronts.proofs.values.type_letters.Statement.{statement}
 use Rattle.fronts.proofs.values.type_letters.Tie as tie
 
-enum-told : tie.Need-enum-told
-enum-told c = search needs
-
-letters-of-requires : tie.Need-letters-of-requires
-letters-of-requires c κs = search needs
-
-enum-told-2 : tie.Need-enum-told-2
-enum-told-2 c = search needs
-
-letters-of-requires-2 : tie.Need-letters-of-requires-2
-letters-of-requires-2 c κs = search needs
-
-enum-told-3 : tie.Need-enum-told-3
-enum-told-3 c = search needs
-
-letters-of-requires-3 : tie.Need-letters-of-requires-3
-letters-of-requires-3 c κs = search needs
-
-enum-told-4 : tie.Need-enum-told-4
-enum-told-4 c = search needs
-
-letters-of-requires-4 : tie.Need-letters-of-requires-4
-letters-of-requires-4 c κs = search needs
-
-enum-told-5 : tie.Need-enum-told-5
-enum-told-5 c = search needs
-
-letters-of-requires-5 : tie.Need-letters-of-requires-5
-letters-of-requires-5 c κs = search needs
-
-enum-told-6 : tie.Need-enum-told-6
-enum-told-6 c = search needs
-
-letters-of-requires-6 : tie.Need-letters-of-requires-6
-letters-of-requires-6 c κs = search needs
-
-enum-known-t : tie.Need-enum-known-t
-enum-known-t c = search needs
-
-letters-of-requires-7 : tie.Need-letters-of-requires-7
-letters-of-requires-7 c κs = search needs
-
 returns : tie.Need-returns
 returns c = rw (c .before .enum-told .given .1) (c .letters-of .ensures)
 
@@ -70,20 +28,20 @@ pub type-letters-spec : {M : Type 1} → statement M
 type-letters-spec =
     tie.close
     (tie.spec
-    enum-told
-    letters-of-requires
-    enum-told-2
-    letters-of-requires-2
-    enum-told-3
-    letters-of-requires-3
-    enum-told-4
-    letters-of-requires-4
-    enum-told-5
-    letters-of-requires-5
-    enum-told-6
-    letters-of-requires-6
-    enum-known-t
-    letters-of-requires-7
+    (λ c. search needs)
+    (λ c κs. search needs)
+    (λ c. search needs)
+    (λ c κs. search needs)
+    (λ c. search needs)
+    (λ c κs. search needs)
+    (λ c. search needs)
+    (λ c κs. search needs)
+    (λ c. search needs)
+    (λ c κs. search needs)
+    (λ c. search needs)
+    (λ c κs. search needs)
+    (λ c. search needs)
+    (λ c κs. search needs)
     returns
     returns-2
     returns-3

@@ -12,31 +12,10 @@ use borrow.Author.Needs.{needs}
 use Rattle.messages.proofs.system_exclusive.read_after_maker.Statement.{statement}
 use Rattle.messages.proofs.system_exclusive.read_after_maker.Tie as tie
 
-add-if1 : tie.Need-add-if1
-add-if1 c = search needs
-
 returns : tie.Need-returns
 returns c =
     let s = c .before .before in
     rw (lt-ltb (length (now (s .args .m))) (s .args .i + 8) (omega arith))
-
-add-end : tie.Need-add-end
-add-end c = search needs
-
-sub-is-seven : tie.Need-sub-is-seven
-sub-is-seven c = search needs
-
-part-is-seven-start : tie.Need-part-is-seven-start
-part-is-seven-start c = search needs
-
-part-is-seven-end : tie.Need-part-is-seven-end
-part-is-seven-end c = search needs
-
-is-seven-requires : tie.Need-is-seven-requires
-is-seven-requires c κs = search needs
-
-reply-from-requires : tie.Need-reply-from-requires
-reply-from-requires c κs = search needs
 
 returns-2 : tie.Need-returns-2
 returns-2 c =
@@ -62,13 +41,13 @@ pub read-after-maker-spec : {M : Type 1} → statement M
 read-after-maker-spec =
     tie.close
     (tie.spec
-    add-if1
+    (λ c. search needs)
     returns
-    add-end
-    sub-is-seven
-    part-is-seven-start
-    part-is-seven-end
-    is-seven-requires
-    reply-from-requires
+    (λ c. search needs)
+    (λ c. search needs)
+    (λ c. search needs)
+    (λ c. search needs)
+    (λ c κs. search needs)
+    (λ c κs. search needs)
     returns-2
     returns-3)

@@ -13,16 +13,10 @@ returns c =
     let l = now (c .before .before .args .m) in
     rw (lt-ltb (length l) 3 (omega arith))
 
-shared-slice-read-b : tie.Need-shared-slice-read-b
-shared-slice-read-b c = search needs
-
 returns-2 : tie.Need-returns-2
 returns-2 c =
     let l = now (c .before .before .before .before .args .m) in
     rw (le-ltb (length l) 3 (omega arith), lt-ltb 127 (getD l 2 0) (omega arith))
-
-read-after-maker-requires : tie.Need-read-after-maker-requires
-read-after-maker-requires c κs = search needs
 
 returns-3 : tie.Need-returns-3
 returns-3 c =
@@ -34,24 +28,15 @@ returns-4 c =
     let l = now (c .before .before .before .before .before .before .args .m) in
     rw (le-ltb (length l) 3 (omega arith), le-ltb 127 (getD l 2 0) (omega arith), eq-eqb (getD l 2 0) 0 (omega arith), lt-ltb (length l) 5 (omega arith))
 
-shared-slice-read-first : tie.Need-shared-slice-read-first
-shared-slice-read-first c = search needs
-
 returns-5 : tie.Need-returns-5
 returns-5 c =
     let l = now (c .before .before .before .before .before .before .before .before .args .m) in
     rw (le-ltb (length l) 3 (omega arith), le-ltb 127 (getD l 2 0) (omega arith), eq-eqb (getD l 2 0) 0 (omega arith), le-ltb (length l) 5 (omega arith), lt-ltb 127 (getD l 3 0) (omega arith))
 
-shared-slice-read-second : tie.Need-shared-slice-read-second
-shared-slice-read-second c = search needs
-
 returns-6 : tie.Need-returns-6
 returns-6 c =
     let l = now (c .before .before .before .before .before .before .before .before .before .before .args .m) in
     rw (le-ltb (length l) 3 (omega arith), le-ltb 127 (getD l 2 0) (omega arith), eq-eqb (getD l 2 0) 0 (omega arith), le-ltb (length l) 5 (omega arith), le-ltb 127 (getD l 3 0) (omega arith), lt-ltb 127 (getD l 4 0) (omega arith))
-
-read-after-maker-requires-2 : tie.Need-read-after-maker-requires-2
-read-after-maker-requires-2 c κs = search needs
 
 returns-7 : tie.Need-returns-7
 returns-7 c =
@@ -63,14 +48,14 @@ read-maker-spec =
     tie.close
     (tie.spec
     returns
-    shared-slice-read-b
+    (λ c. search needs)
     returns-2
-    read-after-maker-requires
+    (λ c κs. search needs)
     returns-3
     returns-4
-    shared-slice-read-first
+    (λ c. search needs)
     returns-5
-    shared-slice-read-second
+    (λ c. search needs)
     returns-6
-    read-after-maker-requires-2
+    (λ c κs. search needs)
     returns-7)

@@ -5,27 +5,6 @@ use borrow.Author.Needs.{needs}
 use Rattle.numbers.proofs.extended_sample_dump.fits.Statement.{statement}
 use Rattle.numbers.proofs.extended_sample_dump.fits.Tie as tie
 
-transmission-fits-requires : tie.Need-transmission-fits-requires
-transmission-fits-requires c κs = search needs
-
-fits-2-requires : tie.Need-fits-2-requires
-fits-2-requires c κs = search needs
-
-fits-1-requires : tie.Need-fits-1-requires
-fits-1-requires c κs = search needs
-
-fits-1-requires-2 : tie.Need-fits-1-requires-2
-fits-1-requires-2 c κs = search needs
-
-header-fits-requires : tie.Need-header-fits-requires
-header-fits-requires c κs = search needs
-
-extended-transmission-fits-requires : tie.Need-extended-transmission-fits-requires
-extended-transmission-fits-requires c κs = search needs
-
-fits-2-requires-2 : tie.Need-fits-2-requires-2
-fits-2-requires-2 c κs = search needs
-
 returns : tie.Need-returns
 returns c = rw (c .before .match .keys1) (c .transmission-fits .ensures)
 
@@ -56,13 +35,13 @@ pub fits-spec : {M : Type 1} → statement M
 fits-spec =
     tie.close
     (tie.spec
-    transmission-fits-requires
-    fits-2-requires
-    fits-1-requires
-    fits-1-requires-2
-    header-fits-requires
-    extended-transmission-fits-requires
-    fits-2-requires-2
+    (λ c κs. search needs)
+    (λ c κs. search needs)
+    (λ c κs. search needs)
+    (λ c κs. search needs)
+    (λ c κs. search needs)
+    (λ c κs. search needs)
+    (λ c κs. search needs)
     returns
     returns-2
     returns-3

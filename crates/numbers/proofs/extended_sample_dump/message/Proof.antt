@@ -5,27 +5,6 @@ use borrow.Author.Needs.{needs}
 use Rattle.numbers.proofs.extended_sample_dump.message.Statement.{statement}
 use Rattle.numbers.proofs.extended_sample_dump.message.Tie as tie
 
-transmission-requires : tie.Need-transmission-requires
-transmission-requires c κs = search needs
-
-points-request-requires : tie.Need-points-request-requires
-points-request-requires c κs = search needs
-
-name-requires : tie.Need-name-requires
-name-requires c κs = search needs
-
-name-request-requires : tie.Need-name-request-requires
-name-request-requires c κs = search needs
-
-header-requires : tie.Need-header-requires
-header-requires c κs = search needs
-
-extended-transmission-requires : tie.Need-extended-transmission-requires
-extended-transmission-requires c κs = search needs
-
-extended-points-request-requires : tie.Need-extended-points-request-requires
-extended-points-request-requires c κs = search needs
-
 returns : tie.Need-returns
 returns c = rw (c .before .match .keys1) (c .transmission .ensures)
 
@@ -56,13 +35,13 @@ pub message-spec : {M : Type 1} → statement M
 message-spec =
     tie.close
     (tie.spec
-    transmission-requires
-    points-request-requires
-    name-requires
-    name-request-requires
-    header-requires
-    extended-transmission-requires
-    extended-points-request-requires
+    (λ c κs. search needs)
+    (λ c κs. search needs)
+    (λ c κs. search needs)
+    (λ c κs. search needs)
+    (λ c κs. search needs)
+    (λ c κs. search needs)
+    (λ c κs. search needs)
     returns
     returns-2
     returns-3

@@ -5,15 +5,6 @@ use borrow.Author.Needs.{needs}
 use Rattle.numbers.proofs.file_dump.fits.Statement.{statement}
 use Rattle.numbers.proofs.file_dump.fits.Tie as tie
 
-fits-3-requires : tie.Need-fits-3-requires
-fits-3-requires c κs = search needs
-
-fits-1-requires : tie.Need-fits-1-requires
-fits-1-requires c κs = search needs
-
-fits-2-requires : tie.Need-fits-2-requires
-fits-2-requires c κs = search needs
-
 returns : tie.Need-returns
 returns c = rw (c .before .match .keys1) (c .fits-3 .ensures)
 
@@ -32,9 +23,9 @@ pub fits-spec : {M : Type 1} → statement M
 fits-spec =
     tie.close
     (tie.spec
-    fits-3-requires
-    fits-1-requires
-    fits-2-requires
+    (λ c κs. search needs)
+    (λ c κs. search needs)
+    (λ c κs. search needs)
     returns
     returns-2
     returns-3

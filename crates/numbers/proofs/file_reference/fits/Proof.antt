@@ -5,18 +5,6 @@ use borrow.Author.Needs.{needs}
 use Rattle.numbers.proofs.file_reference.fits.Statement.{statement}
 use Rattle.numbers.proofs.file_reference.fits.Tie as tie
 
-fits-2-requires : tie.Need-fits-2-requires
-fits-2-requires c κs = search needs
-
-select-fits-requires : tie.Need-select-fits-requires
-select-fits-requires c κs = search needs
-
-open-select-fits-requires : tie.Need-open-select-fits-requires
-open-select-fits-requires c κs = search needs
-
-fits-1-requires : tie.Need-fits-1-requires
-fits-1-requires c κs = search needs
-
 returns : tie.Need-returns
 returns c = rw (c .before .match .keys1) (c .fits-2 .ensures)
 
@@ -38,10 +26,10 @@ pub fits-spec : {M : Type 1} → statement M
 fits-spec =
     tie.close
     (tie.spec
-    fits-2-requires
-    select-fits-requires
-    open-select-fits-requires
-    fits-1-requires
+    (λ c κs. search needs)
+    (λ c κs. search needs)
+    (λ c κs. search needs)
+    (λ c κs. search needs)
     returns
     returns-2
     returns-3

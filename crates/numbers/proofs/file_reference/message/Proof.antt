@@ -5,18 +5,6 @@ use borrow.Author.Needs.{needs}
 use Rattle.numbers.proofs.file_reference.message.Statement.{statement}
 use Rattle.numbers.proofs.file_reference.message.Tie as tie
 
-open-requires : tie.Need-open-requires
-open-requires c κs = search needs
-
-select-requires : tie.Need-select-requires
-select-requires c κs = search needs
-
-open-select-requires : tie.Need-open-select-requires
-open-select-requires c κs = search needs
-
-close-requires : tie.Need-close-requires
-close-requires c κs = search needs
-
 returns : tie.Need-returns
 returns c = rw (c .before .match .keys1) (c .open .ensures)
 
@@ -38,10 +26,10 @@ pub message-spec : {M : Type 1} → statement M
 message-spec =
     tie.close
     (tie.spec
-    open-requires
-    select-requires
-    open-select-requires
-    close-requires
+    (λ c κs. search needs)
+    (λ c κs. search needs)
+    (λ c κs. search needs)
+    (λ c κs. search needs)
     returns
     returns-2
     returns-3

@@ -6,26 +6,14 @@ use borrow.Author.Needs.{needs}
 use Rattle.numbers.proofs.file_reference.select_fits.Statement.{statement}
 use Rattle.numbers.proofs.file_reference.select_fits.Tie as tie
 
-select-list-fits-requires : tie.Need-select-list-fits-requires
-select-list-fits-requires c κs = search needs
-
 returns : tie.Need-returns
 returns c = pick-yes _ (c .before .select-list-fits .ensures) (c .if1 .taken) (refl)
-
-select-offset-fits-requires : tie.Need-select-offset-fits-requires
-select-offset-fits-requires c κs = search needs
 
 returns-2 : tie.Need-returns-2
 returns-2 c = pick-no _ (c .before .before .before .select-list-fits .ensures) (c .before .before .if1 .left) (pick-yes _ (c .before .select-offset-fits .ensures) (c .if2 .taken) (refl))
 
-select-wav-fits-requires : tie.Need-select-wav-fits-requires
-select-wav-fits-requires c κs = search needs
-
 returns-3 : tie.Need-returns-3
 returns-3 c = pick-no _ (c .before .before .before .before .before .select-list-fits .ensures) (c .before .before .before .before .if1 .left) (pick-no _ (c .before .before .before .select-offset-fits .ensures) (c .before .before .if2 .left) (pick-yes _ (c .before .select-wav-fits .ensures) (c .if3 .taken) (refl)))
-
-select-both-fits-requires : tie.Need-select-both-fits-requires
-select-both-fits-requires c κs = search needs
 
 returns-4 : tie.Need-returns-4
 returns-4 c = pick-no _ (c .before .before .before .before .before .before .select-list-fits .ensures) (c .before .before .before .before .before .if1 .left) (pick-no _ (c .before .before .before .before .select-offset-fits .ensures) (c .before .before .before .if2 .left) (pick-no _ (c .before .before .select-wav-fits .ensures) (c .before .if3 .left) (c .select-both-fits .ensures)))
@@ -34,11 +22,11 @@ pub select-fits-spec : {M : Type 1} → statement M
 select-fits-spec =
     tie.close
     (tie.spec
-    select-list-fits-requires
+    (λ c κs. search needs)
     returns
-    select-offset-fits-requires
+    (λ c κs. search needs)
     returns-2
-    select-wav-fits-requires
+    (λ c κs. search needs)
     returns-3
-    select-both-fits-requires
+    (λ c κs. search needs)
     returns-4)

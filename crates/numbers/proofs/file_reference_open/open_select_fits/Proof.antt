@@ -6,26 +6,14 @@ use borrow.Author.Needs.{needs}
 use Rattle.numbers.proofs.file_reference_open.open_select_fits.Statement.{statement}
 use Rattle.numbers.proofs.file_reference_open.open_select_fits.Tie as tie
 
-open-list-fits-requires : tie.Need-open-list-fits-requires
-open-list-fits-requires c κs = search needs
-
 returns : tie.Need-returns
 returns c = pick-yes _ (c .before .open-list-fits .ensures) (c .if1 .taken) (refl)
-
-open-offset-fits-requires : tie.Need-open-offset-fits-requires
-open-offset-fits-requires c κs = search needs
 
 returns-2 : tie.Need-returns-2
 returns-2 c = pick-no _ (c .before .before .before .open-list-fits .ensures) (c .before .before .if1 .left) (pick-yes _ (c .before .open-offset-fits .ensures) (c .if2 .taken) (refl))
 
-open-wav-fits-requires : tie.Need-open-wav-fits-requires
-open-wav-fits-requires c κs = search needs
-
 returns-3 : tie.Need-returns-3
 returns-3 c = pick-no _ (c .before .before .before .before .before .open-list-fits .ensures) (c .before .before .before .before .if1 .left) (pick-no _ (c .before .before .before .open-offset-fits .ensures) (c .before .before .if2 .left) (pick-yes _ (c .before .open-wav-fits .ensures) (c .if3 .taken) (refl)))
-
-open-both-fits-requires : tie.Need-open-both-fits-requires
-open-both-fits-requires c κs = search needs
 
 returns-4 : tie.Need-returns-4
 returns-4 c = pick-no _ (c .before .before .before .before .before .before .open-list-fits .ensures) (c .before .before .before .before .before .if1 .left) (pick-no _ (c .before .before .before .before .open-offset-fits .ensures) (c .before .before .before .if2 .left) (pick-no _ (c .before .before .open-wav-fits .ensures) (c .before .if3 .left) (c .open-both-fits .ensures)))
@@ -34,11 +22,11 @@ pub open-select-fits-spec : {M : Type 1} → statement M
 open-select-fits-spec =
     tie.close
     (tie.spec
-    open-list-fits-requires
+    (λ c κs. search needs)
     returns
-    open-offset-fits-requires
+    (λ c κs. search needs)
     returns-2
-    open-wav-fits-requires
+    (λ c κs. search needs)
     returns-3
-    open-both-fits-requires
+    (λ c κs. search needs)
     returns-4)

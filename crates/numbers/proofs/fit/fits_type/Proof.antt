@@ -11,87 +11,6 @@ use borrow.Author.Needs.{needs}
 use Rattle.numbers.proofs.fit.fits_type.Statement.{statement}
 use Rattle.numbers.proofs.fit.fits_type.Tie as tie
 
-enum-told : tie.Need-enum-told
-enum-told c = search needs
-
-enum-told-2 : tie.Need-enum-told-2
-enum-told-2 c = search needs
-
-enum-told-3 : tie.Need-enum-told-3
-enum-told-3 c = search needs
-
-enum-told-4 : tie.Need-enum-told-4
-enum-told-4 c = search needs
-
-enum-told-5 : tie.Need-enum-told-5
-enum-told-5 c = search needs
-
-is-i8-requires : tie.Need-is-i8-requires
-is-i8-requires c κs = search needs
-
-enum-told-6 : tie.Need-enum-told-6
-enum-told-6 c = search needs
-
-is-i16-requires : tie.Need-is-i16-requires
-is-i16-requires c κs = search needs
-
-enum-told-7 : tie.Need-enum-told-7
-enum-told-7 c = search needs
-
-enum-told-8 : tie.Need-enum-told-8
-enum-told-8 c = search needs
-
-is-up-to-requires : tie.Need-is-up-to-requires
-is-up-to-requires c κs = search needs
-
-enum-told-9 : tie.Need-enum-told-9
-enum-told-9 c = search needs
-
-is-up-to-requires-2 : tie.Need-is-up-to-requires-2
-is-up-to-requires-2 c κs = search needs
-
-enum-told-10 : tie.Need-enum-told-10
-enum-told-10 c = search needs
-
-is-up-to-requires-3 : tie.Need-is-up-to-requires-3
-is-up-to-requires-3 c κs = search needs
-
-enum-told-11 : tie.Need-enum-told-11
-enum-told-11 c = search needs
-
-is-loop-type-requires : tie.Need-is-loop-type-requires
-is-loop-type-requires c κs = search needs
-
-enum-told-12 : tie.Need-enum-told-12
-enum-told-12 c = search needs
-
-is-extended-loop-type-requires : tie.Need-is-extended-loop-type-requires
-is-extended-loop-type-requires c κs = search needs
-
-enum-told-13 : tie.Need-enum-told-13
-enum-told-13 c = search needs
-
-enum-told-14 : tie.Need-enum-told-14
-enum-told-14 c = search needs
-
-enum-told-15 : tie.Need-enum-told-15
-enum-told-15 c = search needs
-
-is-up-to-requires-4 : tie.Need-is-up-to-requires-4
-is-up-to-requires-4 c κs = search needs
-
-enum-told-16 : tie.Need-enum-told-16
-enum-told-16 c = search needs
-
-enum-told-17 : tie.Need-enum-told-17
-enum-told-17 c = search needs
-
-enum-told-18 : tie.Need-enum-told-18
-enum-told-18 c = search needs
-
-enum-told-19 : tie.Need-enum-told-19
-enum-told-19 c = search needs
-
 returns : tie.Need-returns
 returns c = fit-as (c .before .before .args .x) (c .enum-told .given .1) (pick-some (ltb (c .before .before .args .x) 256) (c .before .before .args .x))
 
@@ -153,33 +72,33 @@ pub fits-type-spec : {M : Type 1} → statement M
 fits-type-spec =
     tie.close
     (tie.spec
-    enum-told
-    enum-told-2
-    enum-told-3
-    enum-told-4
-    enum-told-5
-    is-i8-requires
-    enum-told-6
-    is-i16-requires
-    enum-told-7
-    enum-told-8
-    is-up-to-requires
-    enum-told-9
-    is-up-to-requires-2
-    enum-told-10
-    is-up-to-requires-3
-    enum-told-11
-    is-loop-type-requires
-    enum-told-12
-    is-extended-loop-type-requires
-    enum-told-13
-    enum-told-14
-    enum-told-15
-    is-up-to-requires-4
-    enum-told-16
-    enum-told-17
-    enum-told-18
-    enum-told-19
+    (λ c. search needs)
+    (λ c. search needs)
+    (λ c. search needs)
+    (λ c. search needs)
+    (λ c. search needs)
+    (λ c κs. search needs)
+    (λ c. search needs)
+    (λ c κs. search needs)
+    (λ c. search needs)
+    (λ c. search needs)
+    (λ c κs. search needs)
+    (λ c. search needs)
+    (λ c κs. search needs)
+    (λ c. search needs)
+    (λ c κs. search needs)
+    (λ c. search needs)
+    (λ c κs. search needs)
+    (λ c. search needs)
+    (λ c κs. search needs)
+    (λ c. search needs)
+    (λ c. search needs)
+    (λ c. search needs)
+    (λ c κs. search needs)
+    (λ c. search needs)
+    (λ c. search needs)
+    (λ c. search needs)
+    (λ c. search needs)
     returns
     returns-2
     returns-3

@@ -5,21 +5,6 @@ use borrow.Author.Needs.{needs}
 use Rattle.numbers.proofs.handshake.fits.Statement.{statement}
 use Rattle.numbers.proofs.handshake.fits.Tie as tie
 
-fits-0-requires : tie.Need-fits-0-requires
-fits-0-requires c κs = search needs
-
-fits-0-requires-2 : tie.Need-fits-0-requires-2
-fits-0-requires-2 c κs = search needs
-
-fits-0-requires-3 : tie.Need-fits-0-requires-3
-fits-0-requires-3 c κs = search needs
-
-fits-1-requires : tie.Need-fits-1-requires
-fits-1-requires c κs = search needs
-
-fits-1-requires-2 : tie.Need-fits-1-requires-2
-fits-1-requires-2 c κs = search needs
-
 returns : tie.Need-returns
 returns c = rw (c .before .match .keys1) (c .fits-0 .ensures)
 
@@ -44,11 +29,11 @@ pub fits-spec : {M : Type 1} → statement M
 fits-spec =
     tie.close
     (tie.spec
-    fits-0-requires
-    fits-0-requires-2
-    fits-0-requires-3
-    fits-1-requires
-    fits-1-requires-2
+    (λ c κs. search needs)
+    (λ c κs. search needs)
+    (λ c κs. search needs)
+    (λ c κs. search needs)
+    (λ c κs. search needs)
     returns
     returns-2
     returns-3

@@ -5,12 +5,6 @@ use borrow.Author.Needs.{needs}
 use Rattle.numbers.proofs.handshake.message.Statement.{statement}
 use Rattle.numbers.proofs.handshake.message.Tie as tie
 
-nak-requires : tie.Need-nak-requires
-nak-requires c κs = search needs
-
-ack-requires : tie.Need-ack-requires
-ack-requires c κs = search needs
-
 returns : tie.Need-returns
 returns c = rw (c .match .keys1)
 
@@ -34,4 +28,4 @@ returns-6 c =
 pub message-spec : {M : Type 1} → statement M
 message-spec =
     tie.close
-    (tie.spec nak-requires ack-requires returns returns-2 returns-3 returns-4 returns-5 returns-6)
+    (tie.spec (λ c κs. search needs) (λ c κs. search needs) returns returns-2 returns-3 returns-4 returns-5 returns-6)

@@ -5,12 +5,6 @@ use borrow.Author.Needs.{needs}
 use Rattle.numbers.proofs.identity.fits.Statement.{statement}
 use Rattle.numbers.proofs.identity.fits.Tie as tie
 
-fits-0-requires : tie.Need-fits-0-requires
-fits-0-requires c κs = search needs
-
-reply-fits-requires : tie.Need-reply-fits-requires
-reply-fits-requires c κs = search needs
-
 returns : tie.Need-returns
 returns c = rw (c .before .match .keys1) (c .fits-0 .ensures)
 
@@ -23,4 +17,4 @@ returns-3 c =
     rw (ne-eqb _ _ (r .0 .1), ne-eqb _ _ (r .1))
 
 pub fits-spec : {M : Type 1} → statement M
-fits-spec = tie.close (tie.spec fits-0-requires reply-fits-requires returns returns-2 returns-3)
+fits-spec = tie.close (tie.spec (λ c κs. search needs) (λ c κs. search needs) returns returns-2 returns-3)

@@ -5,9 +5,6 @@ use borrow.Author.Needs.{needs}
 use Rattle.numbers.proofs.identity.message.Statement.{statement}
 use Rattle.numbers.proofs.identity.message.Tie as tie
 
-any-reply-requires : tie.Need-any-reply-requires
-any-reply-requires c κs = search needs
-
 returns : tie.Need-returns
 returns c = rw (c .match .keys1)
 
@@ -20,4 +17,4 @@ returns-3 c =
     rw (ne-eqb _ _ (r .0 .1), ne-eqb _ _ (r .1))
 
 pub message-spec : {M : Type 1} → statement M
-message-spec = tie.close (tie.spec any-reply-requires returns returns-2 returns-3)
+message-spec = tie.close (tie.spec (λ c κs. search needs) returns returns-2 returns-3)

@@ -6,14 +6,8 @@ use borrow.Author.Needs.{needs}
 use Rattle.numbers.proofs.identity.reply_fits.Statement.{statement}
 use Rattle.numbers.proofs.identity.reply_fits.Tie as tie
 
-one-byte-reply-fits-requires : tie.Need-one-byte-reply-fits-requires
-one-byte-reply-fits-requires c κs = search needs
-
 returns : tie.Need-returns
 returns c = pick-yes _ (c .before .one-byte-reply-fits .ensures) (c .if1 .taken) (refl)
-
-two-byte-reply-fits-requires : tie.Need-two-byte-reply-fits-requires
-two-byte-reply-fits-requires c κs = search needs
 
 returns-2 : tie.Need-returns-2
 returns-2 c = pick-no _ (c .before .before .one-byte-reply-fits .ensures) (c .before .if1 .left) (c .two-byte-reply-fits .ensures)
@@ -21,4 +15,4 @@ returns-2 c = pick-no _ (c .before .before .one-byte-reply-fits .ensures) (c .be
 pub reply-fits-spec : {M : Type 1} → statement M
 reply-fits-spec =
     tie.close
-    (tie.spec one-byte-reply-fits-requires returns two-byte-reply-fits-requires returns-2)
+    (tie.spec (λ c κs. search needs) returns (λ c κs. search needs) returns-2)

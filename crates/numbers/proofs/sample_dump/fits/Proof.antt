@@ -5,15 +5,6 @@ use borrow.Author.Needs.{needs}
 use Rattle.numbers.proofs.sample_dump.fits.Statement.{statement}
 use Rattle.numbers.proofs.sample_dump.fits.Tie as tie
 
-header-fits-requires : tie.Need-header-fits-requires
-header-fits-requires c κs = search needs
-
-fits-1-requires : tie.Need-fits-1-requires
-fits-1-requires c κs = search needs
-
-fits-1-requires-2 : tie.Need-fits-1-requires-2
-fits-1-requires-2 c κs = search needs
-
 returns : tie.Need-returns
 returns c = rw (c .before .match .keys1) (c .header-fits .ensures)
 
@@ -32,9 +23,9 @@ pub fits-spec : {M : Type 1} → statement M
 fits-spec =
     tie.close
     (tie.spec
-    header-fits-requires
-    fits-1-requires
-    fits-1-requires-2
+    (λ c κs. search needs)
+    (λ c κs. search needs)
+    (λ c κs. search needs)
     returns
     returns-2
     returns-3

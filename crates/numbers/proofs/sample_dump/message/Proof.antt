@@ -5,15 +5,6 @@ use borrow.Author.Needs.{needs}
 use Rattle.numbers.proofs.sample_dump.message.Statement.{statement}
 use Rattle.numbers.proofs.sample_dump.message.Tie as tie
 
-header-requires : tie.Need-header-requires
-header-requires c κs = search needs
-
-packet-requires : tie.Need-packet-requires
-packet-requires c κs = search needs
-
-request-requires : tie.Need-request-requires
-request-requires c κs = search needs
-
 returns : tie.Need-returns
 returns c = rw (c .before .match .keys1) (c .header .ensures)
 
@@ -32,9 +23,9 @@ pub message-spec : {M : Type 1} → statement M
 message-spec =
     tie.close
     (tie.spec
-    header-requires
-    packet-requires
-    request-requires
+    (λ c κs. search needs)
+    (λ c κs. search needs)
+    (λ c κs. search needs)
     returns
     returns-2
     returns-3

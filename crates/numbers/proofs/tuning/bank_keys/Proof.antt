@@ -4,14 +4,8 @@ use borrow.Author.Needs.{needs}
 use Rattle.numbers.proofs.tuning.bank_keys.Statement.{statement}
 use Rattle.numbers.proofs.tuning.bank_keys.Tie as tie
 
-u8-at-requires : tie.Need-u8-at-requires
-u8-at-requires c κs = search needs
-
-u8-at-requires-2 : tie.Need-u8-at-requires-2
-u8-at-requires-2 c κs = search needs
-
 returns : tie.Need-returns
 returns c = rw (c .before .u8-at .ensures, c .u8-at2 .ensures)
 
 pub bank-keys-spec : {M : Type 1} → statement M
-bank-keys-spec = tie.close (tie.spec u8-at-requires u8-at-requires-2 returns)
+bank-keys-spec = tie.close (tie.spec (λ c κs. search needs) (λ c κs. search needs) returns)

@@ -5,33 +5,6 @@ use borrow.Author.Needs.{needs}
 use Rattle.numbers.proofs.tuning.fits.Statement.{statement}
 use Rattle.numbers.proofs.tuning.fits.Tie as tie
 
-fits-1-requires : tie.Need-fits-1-requires
-fits-1-requires c κs = search needs
-
-fits-1-requires-2 : tie.Need-fits-1-requires-2
-fits-1-requires-2 c κs = search needs
-
-fits-2-requires : tie.Need-fits-2-requires
-fits-2-requires c κs = search needs
-
-fits-2-requires-2 : tie.Need-fits-2-requires-2
-fits-2-requires-2 c κs = search needs
-
-scale-dump-1-fits-requires : tie.Need-scale-dump-1-fits-requires
-scale-dump-1-fits-requires c κs = search needs
-
-scale-dump-2-fits-requires : tie.Need-scale-dump-2-fits-requires
-scale-dump-2-fits-requires c κs = search needs
-
-fits-2-requires-3 : tie.Need-fits-2-requires-3
-fits-2-requires-3 c κs = search needs
-
-scale-tuning-1-fits-requires : tie.Need-scale-tuning-1-fits-requires
-scale-tuning-1-fits-requires c κs = search needs
-
-scale-tuning-2-fits-requires : tie.Need-scale-tuning-2-fits-requires
-scale-tuning-2-fits-requires c κs = search needs
-
 returns : tie.Need-returns
 returns c = rw (c .before .match .keys1) (c .fits-1 .ensures)
 
@@ -68,15 +41,15 @@ pub fits-spec : {M : Type 1} → statement M
 fits-spec =
     tie.close
     (tie.spec
-    fits-1-requires
-    fits-1-requires-2
-    fits-2-requires
-    fits-2-requires-2
-    scale-dump-1-fits-requires
-    scale-dump-2-fits-requires
-    fits-2-requires-3
-    scale-tuning-1-fits-requires
-    scale-tuning-2-fits-requires
+    (λ c κs. search needs)
+    (λ c κs. search needs)
+    (λ c κs. search needs)
+    (λ c κs. search needs)
+    (λ c κs. search needs)
+    (λ c κs. search needs)
+    (λ c κs. search needs)
+    (λ c κs. search needs)
+    (λ c κs. search needs)
     returns
     returns-2
     returns-3

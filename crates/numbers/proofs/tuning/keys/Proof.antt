@@ -4,11 +4,8 @@ use borrow.Author.Needs.{needs}
 use Rattle.numbers.proofs.tuning.keys.Statement.{statement}
 use Rattle.numbers.proofs.tuning.keys.Tie as tie
 
-u8-at-requires : tie.Need-u8-at-requires
-u8-at-requires c κs = search needs
-
 returns : tie.Need-returns
 returns c = rw (c .u8-at .ensures)
 
 pub keys-spec : {M : Type 1} → statement M
-keys-spec = tie.close (tie.spec u8-at-requires returns)
+keys-spec = tie.close (tie.spec (λ c κs. search needs) returns)

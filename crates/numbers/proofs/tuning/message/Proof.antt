@@ -5,33 +5,6 @@ use borrow.Author.Needs.{needs}
 use Rattle.numbers.proofs.tuning.message.Statement.{statement}
 use Rattle.numbers.proofs.tuning.message.Tie as tie
 
-request-requires : tie.Need-request-requires
-request-requires c κs = search needs
-
-keys-requires : tie.Need-keys-requires
-keys-requires c κs = search needs
-
-bank-request-requires : tie.Need-bank-request-requires
-bank-request-requires c κs = search needs
-
-bank-keys-requires : tie.Need-bank-keys-requires
-bank-keys-requires c κs = search needs
-
-scale-dump-1-requires : tie.Need-scale-dump-1-requires
-scale-dump-1-requires c κs = search needs
-
-scale-dump-2-requires : tie.Need-scale-dump-2-requires
-scale-dump-2-requires c κs = search needs
-
-note-change-requires : tie.Need-note-change-requires
-note-change-requires c κs = search needs
-
-scale-tuning-1-requires : tie.Need-scale-tuning-1-requires
-scale-tuning-1-requires c κs = search needs
-
-scale-tuning-2-requires : tie.Need-scale-tuning-2-requires
-scale-tuning-2-requires c κs = search needs
-
 returns : tie.Need-returns
 returns c = rw (c .before .match .keys1) (c .request .ensures)
 
@@ -68,15 +41,15 @@ pub message-spec : {M : Type 1} → statement M
 message-spec =
     tie.close
     (tie.spec
-    request-requires
-    keys-requires
-    bank-request-requires
-    bank-keys-requires
-    scale-dump-1-requires
-    scale-dump-2-requires
-    note-change-requires
-    scale-tuning-1-requires
-    scale-tuning-2-requires
+    (λ c κs. search needs)
+    (λ c κs. search needs)
+    (λ c κs. search needs)
+    (λ c κs. search needs)
+    (λ c κs. search needs)
+    (λ c κs. search needs)
+    (λ c κs. search needs)
+    (λ c κs. search needs)
+    (λ c κs. search needs)
     returns
     returns-2
     returns-3

@@ -7,75 +7,6 @@ use borrow.Author.Needs.{needs}
 use Rattle.numbers.proofs.tuning.scale_1.Statement.{statement}
 use Rattle.numbers.proofs.tuning.scale_1.Tie as tie
 
-i8-at-requires : tie.Need-i8-at-requires
-i8-at-requires c κs = search needs
-
-add-i8-at : tie.Need-add-i8-at
-add-i8-at c = search needs
-
-i8-at-requires-2 : tie.Need-i8-at-requires-2
-i8-at-requires-2 c κs = search needs
-
-add-i8-at-2 : tie.Need-add-i8-at-2
-add-i8-at-2 c = search needs
-
-i8-at-requires-3 : tie.Need-i8-at-requires-3
-i8-at-requires-3 c κs = search needs
-
-add-i8-at-3 : tie.Need-add-i8-at-3
-add-i8-at-3 c = search needs
-
-i8-at-requires-4 : tie.Need-i8-at-requires-4
-i8-at-requires-4 c κs = search needs
-
-add-i8-at-4 : tie.Need-add-i8-at-4
-add-i8-at-4 c = search needs
-
-i8-at-requires-5 : tie.Need-i8-at-requires-5
-i8-at-requires-5 c κs = search needs
-
-add-i8-at-5 : tie.Need-add-i8-at-5
-add-i8-at-5 c = search needs
-
-i8-at-requires-6 : tie.Need-i8-at-requires-6
-i8-at-requires-6 c κs = search needs
-
-add-i8-at-6 : tie.Need-add-i8-at-6
-add-i8-at-6 c = search needs
-
-i8-at-requires-7 : tie.Need-i8-at-requires-7
-i8-at-requires-7 c κs = search needs
-
-add-i8-at-7 : tie.Need-add-i8-at-7
-add-i8-at-7 c = search needs
-
-i8-at-requires-8 : tie.Need-i8-at-requires-8
-i8-at-requires-8 c κs = search needs
-
-add-i8-at-8 : tie.Need-add-i8-at-8
-add-i8-at-8 c = search needs
-
-i8-at-requires-9 : tie.Need-i8-at-requires-9
-i8-at-requires-9 c κs = search needs
-
-add-i8-at-9 : tie.Need-add-i8-at-9
-add-i8-at-9 c = search needs
-
-i8-at-requires-10 : tie.Need-i8-at-requires-10
-i8-at-requires-10 c κs = search needs
-
-add-i8-at-10 : tie.Need-add-i8-at-10
-add-i8-at-10 c = search needs
-
-i8-at-requires-11 : tie.Need-i8-at-requires-11
-i8-at-requires-11 c κs = search needs
-
-add-i8-at-11 : tie.Need-add-i8-at-11
-add-i8-at-11 c = search needs
-
-i8-at-requires-12 : tie.Need-i8-at-requires-12
-i8-at-requires-12 c κs = search needs
-
 returns : tie.Need-returns
 returns c =
     let z0 : toZ w8 (ofZ w8 (c .before .before .before .before .before .before .before .before .before .before .before .i8-at .result)) ≡ c .before .before .before .before .before .before .before .before .before .before .before .i8-at .result = search needs in
@@ -109,27 +40,27 @@ pub scale-1-spec : {M : Type 1} → statement M
 scale-1-spec =
     tie.close
     (tie.spec
-    i8-at-requires
-    add-i8-at
-    i8-at-requires-2
-    add-i8-at-2
-    i8-at-requires-3
-    add-i8-at-3
-    i8-at-requires-4
-    add-i8-at-4
-    i8-at-requires-5
-    add-i8-at-5
-    i8-at-requires-6
-    add-i8-at-6
-    i8-at-requires-7
-    add-i8-at-7
-    i8-at-requires-8
-    add-i8-at-8
-    i8-at-requires-9
-    add-i8-at-9
-    i8-at-requires-10
-    add-i8-at-10
-    i8-at-requires-11
-    add-i8-at-11
-    i8-at-requires-12
+    (λ c κs. search needs)
+    (λ c. search needs)
+    (λ c κs. search needs)
+    (λ c. search needs)
+    (λ c κs. search needs)
+    (λ c. search needs)
+    (λ c κs. search needs)
+    (λ c. search needs)
+    (λ c κs. search needs)
+    (λ c. search needs)
+    (λ c κs. search needs)
+    (λ c. search needs)
+    (λ c κs. search needs)
+    (λ c. search needs)
+    (λ c κs. search needs)
+    (λ c. search needs)
+    (λ c κs. search needs)
+    (λ c. search needs)
+    (λ c κs. search needs)
+    (λ c. search needs)
+    (λ c κs. search needs)
+    (λ c. search needs)
+    (λ c κs. search needs)
     returns)

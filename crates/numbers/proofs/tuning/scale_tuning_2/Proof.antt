@@ -4,14 +4,8 @@ use borrow.Author.Needs.{needs}
 use Rattle.numbers.proofs.tuning.scale_tuning_2.Statement.{statement}
 use Rattle.numbers.proofs.tuning.scale_tuning_2.Tie as tie
 
-u16-at-requires : tie.Need-u16-at-requires
-u16-at-requires c κs = search needs
-
-scale-2-requires : tie.Need-scale-2-requires
-scale-2-requires c κs = search needs
-
 returns : tie.Need-returns
 returns c = rw (c .before .u16-at .ensures, c .scale-2 .ensures)
 
 pub scale-tuning-2-spec : {M : Type 1} → statement M
-scale-tuning-2-spec = tie.close (tie.spec u16-at-requires scale-2-requires returns)
+scale-tuning-2-spec = tie.close (tie.spec (λ c κs. search needs) (λ c κs. search needs) returns)

@@ -5,9 +5,6 @@ use borrow.Author.Needs.{needs}
 use Rattle.numbers.proofs.values.extended_loop_type_at.Statement.{statement}
 use Rattle.numbers.proofs.values.extended_loop_type_at.Tie as tie
 
-number-at-requires : tie.Need-number-at-requires
-number-at-requires c κs = search needs
-
 returns : tie.Need-returns
 returns c = rw (← c .before .number-at .ensures, c .match .keys1)
 
@@ -47,7 +44,7 @@ pub extended-loop-type-at-spec : {M : Type 1} → statement M
 extended-loop-type-at-spec =
     tie.close
     (tie.spec
-    number-at-requires
+    (λ c κs. search needs)
     returns
     returns-2
     returns-3

@@ -5,9 +5,6 @@ use borrow.Author.Needs.{needs}
 use Rattle.numbers.proofs.values.flag_at.Statement.{statement}
 use Rattle.numbers.proofs.values.flag_at.Tie as tie
 
-number-at-requires : tie.Need-number-at-requires
-number-at-requires c κs = search needs
-
 returns : tie.Need-returns
 returns c = rw (← c .before .number-at .ensures, c .match .keys1)
 
@@ -20,4 +17,4 @@ returns-3 c =
     rw (← c .before .number-at .ensures, ne-eqb _ _ (r .0 .1), ne-eqb _ _ (r .1))
 
 pub flag-at-spec : {M : Type 1} → statement M
-flag-at-spec = tie.close (tie.spec number-at-requires returns returns-2 returns-3)
+flag-at-spec = tie.close (tie.spec (λ c κs. search needs) returns returns-2 returns-3)

@@ -9,23 +9,11 @@ use borrow.Author.Needs.{needs}
 use Rattle.numbers.proofs.values.i8_at.Statement.{statement}
 use Rattle.numbers.proofs.values.i8_at.Tie as tie
 
-number-at-requires : tie.Need-number-at-requires
-number-at-requires c κs = search needs
-
-cast-result : tie.Need-cast-result
-cast-result c = search needs
-
 returns : tie.Need-returns
 returns c = rw (← c .before .number-at .ensures, lt-ltb _ _ (c .if1 .taken))
 
 returns-2 : tie.Need-returns-2
 returns-2 c = rw (← c .before .before .number-at .ensures, le-ltb _ _ (c .before .if1 .left), lt-ltb _ _ (c .if2 .taken))
-
-sub-below : tie.Need-sub-below
-sub-below c = search needs
-
-cast-result-2 : tie.Need-cast-result-2
-cast-result-2 c = search needs
 
 sub-result : tie.Need-sub-result
 sub-result c = below-fits w8 (18446744073709551615 - c .before .before .number-at .result) (omega arith)
@@ -39,11 +27,11 @@ pub i8-at-spec : {M : Type 1} → statement M
 i8-at-spec =
     tie.close
     (tie.spec
-    number-at-requires
-    cast-result
+    (λ c κs. search needs)
+    (λ c. search needs)
     returns
     returns-2
-    sub-below
-    cast-result-2
+    (λ c. search needs)
+    (λ c. search needs)
     sub-result
     returns-3)

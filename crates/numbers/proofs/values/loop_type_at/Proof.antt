@@ -5,9 +5,6 @@ use borrow.Author.Needs.{needs}
 use Rattle.numbers.proofs.values.loop_type_at.Statement.{statement}
 use Rattle.numbers.proofs.values.loop_type_at.Tie as tie
 
-number-at-requires : tie.Need-number-at-requires
-number-at-requires c κs = search needs
-
 returns : tie.Need-returns
 returns c = rw (← c .before .number-at .ensures, c .match .keys1)
 
@@ -23,4 +20,4 @@ returns-4 c =
     rw (← c .before .number-at .ensures, ne-eqb _ _ (r .0 .0 .1), ne-eqb _ _ (r .0 .1), ne-eqb _ _ (r .1))
 
 pub loop-type-at-spec : {M : Type 1} → statement M
-loop-type-at-spec = tie.close (tie.spec number-at-requires returns returns-2 returns-3 returns-4)
+loop-type-at-spec = tie.close (tie.spec (λ c κs. search needs) returns returns-2 returns-3 returns-4)

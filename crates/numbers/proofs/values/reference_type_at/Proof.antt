@@ -5,9 +5,6 @@ use borrow.Author.Needs.{needs}
 use Rattle.numbers.proofs.values.reference_type_at.Statement.{statement}
 use Rattle.numbers.proofs.values.reference_type_at.Tie as tie
 
-number-at-requires : tie.Need-number-at-requires
-number-at-requires c κs = search needs
-
 returns : tie.Need-returns
 returns c = rw (← c .before .number-at .ensures, c .match .keys1)
 
@@ -24,4 +21,4 @@ returns-4 c =
 
 pub reference-type-at-spec : {M : Type 1} → statement M
 reference-type-at-spec =
-    tie.close (tie.spec number-at-requires returns returns-2 returns-3 returns-4)
+    tie.close (tie.spec (λ c κs. search needs) returns returns-2 returns-3 returns-4)

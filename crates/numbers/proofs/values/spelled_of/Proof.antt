@@ -5,18 +5,6 @@ use borrow.Author.Needs.{needs}
 use Rattle.numbers.proofs.values.spelled_of.Statement.{statement}
 use Rattle.numbers.proofs.values.spelled_of.Tie as tie
 
-cast-t4 : tie.Need-cast-t4
-cast-t4 c = search needs
-
-cast-t7 : tie.Need-cast-t7
-cast-t7 c = search needs
-
-cast-t10 : tie.Need-cast-t10
-cast-t10 c = search needs
-
-cast-t12 : tie.Need-cast-t12
-cast-t12 c = search needs
-
 returns : tie.Need-returns
 returns c = rw (c .match .keys1)
 
@@ -44,10 +32,10 @@ pub spelled-of-spec : {M : Type 1} → statement M
 spelled-of-spec =
     tie.close
     (tie.spec
-    cast-t4
-    cast-t7
-    cast-t10
-    cast-t12
+    (λ c. search needs)
+    (λ c. search needs)
+    (λ c. search needs)
+    (λ c. search needs)
     returns
     returns-2
     returns-3

@@ -8,15 +8,6 @@ use Rattle.parts.proofs.Laws.Lists.{getD-any}
 use Rattle.parts.proofs.entries.key_at.Statement.{statement}
 use Rattle.parts.proofs.entries.key_at.Tie as tie
 
-mul-result : tie.Need-mul-result
-mul-result c = search needs
-
-shared-slice-read-result : tie.Need-shared-slice-read-result
-shared-slice-read-result c = search needs
-
-mul-result-2 : tie.Need-mul-result-2
-mul-result-2 c = search needs
-
 returns : tie.Need-returns
 returns c = getD-any (now (c .before .before .args .s)) (c .before .before .args .i) 0 _ (c .before .if1 .taken)
 
@@ -25,4 +16,4 @@ returns-2 c = sym (List·getD-eq-default (now (c .before .args .s)) _ (c .if1 .l
 
 pub key-at-spec : {M : Type 1} → statement M
 key-at-spec =
-    tie.close (tie.spec mul-result shared-slice-read-result mul-result-2 returns returns-2)
+    tie.close (tie.spec (λ c. search needs) (λ c. search needs) (λ c. search needs) returns returns-2)

@@ -15,27 +15,6 @@ use Rattle.parts.proofs.Laws.Fronts.{fronts}
 use Rattle.parts.proofs.entries.put_change.Statement.{statement}
 use Rattle.parts.proofs.entries.put_change.Tie as tie
 
-hold-requires : tie.Need-hold-requires
-hold-requires c κs = search needs
-
-put-u7-requires : tie.Need-put-u7-requires
-put-u7-requires c κs = search needs
-
-sub-put-tuning-entry : tie.Need-sub-put-tuning-entry
-sub-put-tuning-entry c = search needs
-
-part-put-tuning-entry-start : tie.Need-part-put-tuning-entry-start
-part-put-tuning-entry-start c = search needs
-
-part-put-tuning-entry-end : tie.Need-part-put-tuning-entry-end
-part-put-tuning-entry-end c = search needs
-
-put-tuning-entry-requires : tie.Need-put-tuning-entry-requires
-put-tuning-entry-requires c κs = search needs
-
-same-length : tie.Need-same-length
-same-length c = search needs
-
 returns : tie.Need-returns
 returns c =
     let p = c .before .before in
@@ -51,11 +30,11 @@ pub put-change-spec : {M : Type 1} → statement M
 put-change-spec =
     tie.close
     (tie.spec
-    hold-requires
-    put-u7-requires
-    sub-put-tuning-entry
-    part-put-tuning-entry-start
-    part-put-tuning-entry-end
-    put-tuning-entry-requires
-    same-length
+    (λ c κs. search needs)
+    (λ c κs. search needs)
+    (λ c. search needs)
+    (λ c. search needs)
+    (λ c. search needs)
+    (λ c κs. search needs)
+    (λ c. search needs)
     returns)

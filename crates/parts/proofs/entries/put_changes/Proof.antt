@@ -36,23 +36,11 @@ both c =
     (items-size key-tuning change-of 4 (λ a. refl) es ∙ ap (λ (n : ℕ). 4 * n) (many m))
     (omega (arith, s .pre, m .at-most .ensures)) (p .put-change-list .ensures)
 
-at-most-requires : tie.Need-at-most-requires
-at-most-requires c κs = search needs
-
-cast-out : tie.Need-cast-out
-cast-out c = search needs
-
-slice-write-out : tie.Need-slice-write-out
-slice-write-out c = search needs
-
 sub-put-change-list : tie.Need-sub-put-change-list
 sub-put-change-list c = rw length-set (omega arith)
 
 part-put-change-list-start : tie.Need-part-put-change-list-start
 part-put-change-list-start c = rw length-set (omega arith)
-
-part-put-change-list-end : tie.Need-part-put-change-list-end
-part-put-change-list-end c = search needs
 
 slice-aggregate-put-change-list : tie.Need-slice-aggregate-put-change-list
 slice-aggregate-put-change-list c = sym (many (c .before .before))
@@ -78,12 +66,12 @@ pub put-changes-spec : {M : Type 1} → statement M
 put-changes-spec =
     tie.close
     (tie.spec
-    at-most-requires
-    cast-out
-    slice-write-out
+    (λ c κs. search needs)
+    (λ c. search needs)
+    (λ c. search needs)
     sub-put-change-list
     part-put-change-list-start
-    part-put-change-list-end
+    (λ c. search needs)
     slice-aggregate-put-change-list
     put-change-list-requires
     same-length

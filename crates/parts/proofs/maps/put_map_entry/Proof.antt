@@ -13,33 +13,6 @@ use Rattle.parts.proofs.Laws.Places.{wrote, then, splices}
 use Rattle.parts.proofs.maps.put_map_entry.Statement.{statement}
 use Rattle.parts.proofs.maps.put_map_entry.Tie as tie
 
-mul-flags : tie.Need-mul-flags
-mul-flags c = search needs
-
-add-flags : tie.Need-add-flags
-add-flags c = search needs
-
-put-u14-at-requires : tie.Need-put-u14-at-requires
-put-u14-at-requires c κs = search needs
-
-put-u7-at-requires : tie.Need-put-u7-at-requires
-put-u7-at-requires c κs = search needs
-
-put-u14-at-requires-2 : tie.Need-put-u14-at-requires-2
-put-u14-at-requires-2 c κs = search needs
-
-put-u7-at-requires-2 : tie.Need-put-u7-at-requires-2
-put-u7-at-requires-2 c κs = search needs
-
-put-u7-at-requires-3 : tie.Need-put-u7-at-requires-3
-put-u7-at-requires-3 c κs = search needs
-
-put-u7-at-requires-4 : tie.Need-put-u7-at-requires-4
-put-u7-at-requires-4 c κs = search needs
-
-same-length : tie.Need-same-length
-same-length c = search needs
-
 returns : tie.Need-returns
 returns c =
     let p6 = c .before .before in
@@ -71,13 +44,13 @@ pub put-map-entry-spec : {M : Type 1} → statement M
 put-map-entry-spec =
     tie.close
     (tie.spec
-    mul-flags
-    add-flags
-    put-u14-at-requires
-    put-u7-at-requires
-    put-u14-at-requires-2
-    put-u7-at-requires-2
-    put-u7-at-requires-3
-    put-u7-at-requires-4
-    same-length
+    (λ c. search needs)
+    (λ c. search needs)
+    (λ c κs. search needs)
+    (λ c κs. search needs)
+    (λ c κs. search needs)
+    (λ c κs. search needs)
+    (λ c κs. search needs)
+    (λ c κs. search needs)
+    (λ c. search needs)
     returns)

@@ -36,23 +36,11 @@ both c =
     (items-size sound-file-map map-of 8 (λ a. refl) es ∙ ap (λ (n : ℕ). 8 * n) (many m))
     (omega (arith, s .pre, m .at-most .ensures)) (p .put-map-list .ensures)
 
-at-most-requires : tie.Need-at-most-requires
-at-most-requires c κs = search needs
-
-cast-out : tie.Need-cast-out
-cast-out c = search needs
-
-slice-write-out : tie.Need-slice-write-out
-slice-write-out c = search needs
-
 sub-put-map-list : tie.Need-sub-put-map-list
 sub-put-map-list c = rw length-set (omega arith)
 
 part-put-map-list-start : tie.Need-part-put-map-list-start
 part-put-map-list-start c = rw length-set (omega arith)
-
-part-put-map-list-end : tie.Need-part-put-map-list-end
-part-put-map-list-end c = search needs
 
 slice-aggregate-put-map-list : tie.Need-slice-aggregate-put-map-list
 slice-aggregate-put-map-list c = sym (many (c .before .before))
@@ -78,12 +66,12 @@ pub put-maps-spec : {M : Type 1} → statement M
 put-maps-spec =
     tie.close
     (tie.spec
-    at-most-requires
-    cast-out
-    slice-write-out
+    (λ c κs. search needs)
+    (λ c. search needs)
+    (λ c. search needs)
     sub-put-map-list
     part-put-map-list-start
-    part-put-map-list-end
+    (λ c. search needs)
     slice-aggregate-put-map-list
     put-map-list-requires
     same-length

@@ -16,12 +16,6 @@ use Rattle.parts.proofs.Laws.Places.{wrote, then, splices}
 use Rattle.parts.proofs.maps.put_offset.Statement.{statement}
 use Rattle.parts.proofs.maps.put_offset.Tie as tie
 
-flag-requires : tie.Need-flag-requires
-flag-requires c κs = search needs
-
-slice-write-out : tie.Need-slice-write-out
-slice-write-out c = search needs
-
 slice-write-out-2 : tie.Need-slice-write-out-2
 slice-write-out-2 c = simp length-set (omega arith)
 
@@ -58,8 +52,8 @@ pub put-offset-spec : {M : Type 1} → statement M
 put-offset-spec =
     tie.close
     (tie.spec
-    flag-requires
-    slice-write-out
+    (λ c κs. search needs)
+    (λ c. search needs)
     slice-write-out-2
     slice-write-out-3
     slice-write-out-4

@@ -12,41 +12,8 @@ use Rattle.parts.proofs.Laws.Places.{wrote, then, splices, read-is}
 use Rattle.parts.proofs.maps.put_wav.Statement.{statement}
 use Rattle.parts.proofs.maps.put_wav.Tie as tie
 
-cast-put-u14-at : tie.Need-cast-put-u14-at
-cast-put-u14-at c = search needs
-
-put-u14-at-requires : tie.Need-put-u14-at-requires
-put-u14-at-requires c κs = search needs
-
-cast-put-u7-at : tie.Need-cast-put-u7-at
-cast-put-u7-at c = search needs
-
-put-u7-at-requires : tie.Need-put-u7-at-requires
-put-u7-at-requires c κs = search needs
-
-cast-put-u7-at-2 : tie.Need-cast-put-u7-at-2
-cast-put-u7-at-2 c = search needs
-
-put-u7-at-requires-2 : tie.Need-put-u7-at-requires-2
-put-u7-at-requires-2 c κs = search needs
-
-cast-put-u7-at-3 : tie.Need-cast-put-u7-at-3
-cast-put-u7-at-3 c = search needs
-
-put-u7-at-requires-3 : tie.Need-put-u7-at-requires-3
-put-u7-at-requires-3 c κs = search needs
-
-cast-put-u7-at-4 : tie.Need-cast-put-u7-at-4
-cast-put-u7-at-4 c = search needs
-
-put-u7-at-requires-4 : tie.Need-put-u7-at-requires-4
-put-u7-at-requires-4 c κs = search needs
-
 put-i14-at-requires : tie.Need-put-i14-at-requires
 put-i14-at-requires c κs = omega (arith, c .before .before .before .before .before .before .before .before .before .before)
-
-cast-put-u7-at-5 : tie.Need-cast-put-u7-at-5
-cast-put-u7-at-5 c = search needs
 
 put-u7-at-requires-5 : tie.Need-put-u7-at-requires-5
 put-u7-at-requires-5 c κs = omega (arith, c .before .before .before .before .before .before .before .before .before .before .before .before .before .before)
@@ -86,18 +53,18 @@ pub put-wav-spec : {M : Type 1} → statement M
 put-wav-spec =
     tie.close
     (tie.spec
-    cast-put-u14-at
-    put-u14-at-requires
-    cast-put-u7-at
-    put-u7-at-requires
-    cast-put-u7-at-2
-    put-u7-at-requires-2
-    cast-put-u7-at-3
-    put-u7-at-requires-3
-    cast-put-u7-at-4
-    put-u7-at-requires-4
+    (λ c. search needs)
+    (λ c κs. search needs)
+    (λ c. search needs)
+    (λ c κs. search needs)
+    (λ c. search needs)
+    (λ c κs. search needs)
+    (λ c. search needs)
+    (λ c κs. search needs)
+    (λ c. search needs)
+    (λ c κs. search needs)
     put-i14-at-requires
-    cast-put-u7-at-5
+    (λ c. search needs)
     put-u7-at-requires-5
     same-length
     returns)

@@ -11,24 +11,6 @@ use Rattle.parts.specs.Parts.{part-offset}
 use Rattle.parts.proofs.maps.put_wav_offset.Statement.{statement}
 use Rattle.parts.proofs.maps.put_wav_offset.Tie as tie
 
-put-wav-requires : tie.Need-put-wav-requires
-put-wav-requires c κs = search needs
-
-sub-put-offset : tie.Need-sub-put-offset
-sub-put-offset c = search needs
-
-part-put-offset-start : tie.Need-part-put-offset-start
-part-put-offset-start c = search needs
-
-part-put-offset-end : tie.Need-part-put-offset-end
-part-put-offset-end c = search needs
-
-put-offset-requires : tie.Need-put-offset-requires
-put-offset-requires c κs = search needs
-
-same-length : tie.Need-same-length
-same-length c = search needs
-
 returns : tie.Need-returns
 returns c =
     let p = c .before .before in
@@ -42,10 +24,10 @@ pub put-wav-offset-spec : {M : Type 1} → statement M
 put-wav-offset-spec =
     tie.close
     (tie.spec
-    put-wav-requires
-    sub-put-offset
-    part-put-offset-start
-    part-put-offset-end
-    put-offset-requires
-    same-length
+    (λ c κs. search needs)
+    (λ c. search needs)
+    (λ c. search needs)
+    (λ c. search needs)
+    (λ c κs. search needs)
+    (λ c. search needs)
     returns)

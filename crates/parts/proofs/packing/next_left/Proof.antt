@@ -5,14 +5,8 @@ use Rattle.parts.proofs.Laws.Packs.{next-less}
 use Rattle.parts.proofs.packing.next_left.Statement.{statement}
 use Rattle.parts.proofs.packing.next_left.Tie as tie
 
-sub-result : tie.Need-sub-result
-sub-result c = search needs
-
-returns : tie.Need-returns
-returns c = search needs
-
 returns-2 : tie.Need-returns-2
 returns-2 c = next-less (c .before .args .k) (c .if1 .left)
 
 pub next-left-spec : {M : Type 1} → statement M
-next-left-spec = tie.close (tie.spec sub-result returns returns-2)
+next-left-spec = tie.close (tie.spec (λ c. search needs) (λ c. search needs) returns-2)

@@ -30,23 +30,11 @@ both c =
     let s = p .before .before .before .before in
     byte-then (now (s .args .out)) (pack 0 (now (s .args .s))) (p .put-packed .last .0) (count-byte (now (s .args .s))) _ refl (size s) (p .put-packed .ensures)
 
-add-out : tie.Need-add-out
-add-out c = search needs
-
-cast-out : tie.Need-cast-out
-cast-out c = search needs
-
-slice-write-out : tie.Need-slice-write-out
-slice-write-out c = search needs
-
 sub-put-packed : tie.Need-sub-put-packed
 sub-put-packed c = rw length-set (omega arith)
 
 part-put-packed-start : tie.Need-part-put-packed-start
 part-put-packed-start c = rw length-set (omega arith)
-
-part-put-packed-end : tie.Need-part-put-packed-end
-part-put-packed-end c = search needs
 
 put-packed-requires : tie.Need-put-packed-requires
 put-packed-requires c κs = let s = c .before .before .before in (s .pre .0, byte-room (now (s .args .out)) (count-byte (now (s .args .s))) _ (size s))
@@ -61,12 +49,12 @@ pub put-file-data-spec : {M : Type 1} → statement M
 put-file-data-spec =
     tie.close
     (tie.spec
-    add-out
-    cast-out
-    slice-write-out
+    (λ c. search needs)
+    (λ c. search needs)
+    (λ c. search needs)
     sub-put-packed
     part-put-packed-start
-    part-put-packed-end
+    (λ c. search needs)
     put-packed-requires
     same-length
     returns)

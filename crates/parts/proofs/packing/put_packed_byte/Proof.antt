@@ -12,12 +12,6 @@ use Rattle.parts.proofs.Laws.Packs.{one-there, not-zero, one-first}
 use Rattle.parts.proofs.packing.put_packed_byte.Statement.{statement}
 use Rattle.parts.proofs.packing.put_packed_byte.Tie as tie
 
-shared-slice-read-b : tie.Need-shared-slice-read-b
-shared-slice-read-b c = search needs
-
-tops-at-requires : tie.Need-tops-at-requires
-tops-at-requires c κs = search needs
-
 slice-write-out : tie.Need-slice-write-out
 slice-write-out c = let a = c .before .before .before .before .before .args in omega (arith, one-there (a .k) (drop (a .i) (now (a .s))))
 
@@ -27,9 +21,6 @@ slice-write-out-2 c = let h = rw (c .before .if1 .taken) at (c .before .before .
 slice-write-out-3 : tie.Need-slice-write-out-3
 slice-write-out-3 c = let a = c .before .before .before .before .args in omega (arith, one-there (a .k) (drop (a .i) (now (a .s))))
 
-same-length : tie.Need-same-length
-same-length c = search needs
-
 returns : tie.Need-returns
 returns c =
     let s = c .before .before .before .before .before in
@@ -37,9 +28,6 @@ returns c =
     let e = c .before .if1 .taken in
     let h = rw e at (s .pre .2) in
     rw (e, c .tops-at .ensures, one-first (now (a .s)) (a .i)) (refl, sets-front (pack-one 0 (drop (a .i) (now (a .s)))) (now (a .out)) h)
-
-same-length-2 : tie.Need-same-length-2
-same-length-2 c = search needs
 
 returns-2 : tie.Need-returns-2
 returns-2 c =
@@ -53,12 +41,12 @@ pub put-packed-byte-spec : {M : Type 1} → statement M
 put-packed-byte-spec =
     tie.close
     (tie.spec
-    shared-slice-read-b
-    tops-at-requires
+    (λ c. search needs)
+    (λ c κs. search needs)
     slice-write-out
     slice-write-out-2
     slice-write-out-3
-    same-length
+    (λ c. search needs)
     returns
-    same-length-2
+    (λ c. search needs)
     returns-2)

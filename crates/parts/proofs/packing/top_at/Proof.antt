@@ -8,9 +8,6 @@ use borrow.Author.Needs.{needs}
 use Rattle.parts.proofs.packing.top_at.Statement.{statement}
 use Rattle.parts.proofs.packing.top_at.Tie as tie
 
-shared-slice-read-result : tie.Need-shared-slice-read-result
-shared-slice-read-result c = search needs
-
 returns : tie.Need-returns
 returns c = (refl, omega (arith, c .shared-slice-known .given (c .before .before .args .i)))
 
@@ -18,4 +15,4 @@ returns-2 : tie.Need-returns-2
 returns-2 c = (rw (List·getD-eq-default (now (c .before .args .s)) 0 (c .if1 .left)), search needs)
 
 pub top-at-spec : {M : Type 1} → statement M
-top-at-spec = tie.close (tie.spec shared-slice-read-result returns returns-2)
+top-at-spec = tie.close (tie.spec (λ c. search needs) returns returns-2)

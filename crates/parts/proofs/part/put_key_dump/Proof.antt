@@ -11,24 +11,6 @@ use Rattle.parts.proofs.Laws.Sizes.{length-name, length-keys}
 use Rattle.parts.proofs.part.put_key_dump.Statement.{statement}
 use Rattle.parts.proofs.part.put_key_dump.Tie as tie
 
-put-name-16-requires : tie.Need-put-name-16-requires
-put-name-16-requires c κs = search needs
-
-sub-put-keys : tie.Need-sub-put-keys
-sub-put-keys c = search needs
-
-part-put-keys-start : tie.Need-part-put-keys-start
-part-put-keys-start c = search needs
-
-part-put-keys-end : tie.Need-part-put-keys-end
-part-put-keys-end c = search needs
-
-put-keys-requires : tie.Need-put-keys-requires
-put-keys-requires c κs = search needs
-
-same-length : tie.Need-same-length
-same-length c = search needs
-
 returns : tie.Need-returns
 returns c =
     let p = c .before .before in
@@ -42,10 +24,10 @@ pub put-key-dump-spec : {M : Type 1} → statement M
 put-key-dump-spec =
     tie.close
     (tie.spec
-    put-name-16-requires
-    sub-put-keys
-    part-put-keys-start
-    part-put-keys-end
-    put-keys-requires
-    same-length
+    (λ c κs. search needs)
+    (λ c. search needs)
+    (λ c. search needs)
+    (λ c. search needs)
+    (λ c κs. search needs)
+    (λ c. search needs)
     returns)

@@ -4,26 +4,8 @@ use borrow.Author.Needs.{needs}
 use Rattle.parts.proofs.part.put_part_extended.Statement.{statement}
 use Rattle.parts.proofs.part.put_part_extended.Tie as tie
 
-enum-told : tie.Need-enum-told
-enum-told c = search needs
-
 put-sample-name-requires : tie.Need-put-sample-name-requires
 put-sample-name-requires c κs = rw (c .before .enum-told .given .1) at (c .before .before .before .before .before .pre)
-
-enum-told-2 : tie.Need-enum-told-2
-enum-told-2 c = search needs
-
-enum-told-3 : tie.Need-enum-told-3
-enum-told-3 c = search needs
-
-enum-told-4 : tie.Need-enum-told-4
-enum-told-4 c = search needs
-
-enum-told-5 : tie.Need-enum-told-5
-enum-told-5 c = search needs
-
-same-length : tie.Need-same-length
-same-length c = search needs
 
 returns : tie.Need-returns
 returns c = rw (c .before .before .before .before .enum-told .given .1) (c .before .before .put-sample-name .ensures)
@@ -44,13 +26,13 @@ pub put-part-extended-spec : {M : Type 1} → statement M
 put-part-extended-spec =
     tie.close
     (tie.spec
-    enum-told
+    (λ c. search needs)
     put-sample-name-requires
-    enum-told-2
-    enum-told-3
-    enum-told-4
-    enum-told-5
-    same-length
+    (λ c. search needs)
+    (λ c. search needs)
+    (λ c. search needs)
+    (λ c. search needs)
+    (λ c. search needs)
     returns
     returns-2
     returns-3

@@ -6,14 +6,8 @@ use Rattle.parts.proofs.Laws.Sizes.{not-longer}
 use Rattle.parts.proofs.part.put_part_file.Statement.{statement}
 use Rattle.parts.proofs.part.put_part_file.Tie as tie
 
-enum-told : tie.Need-enum-told
-enum-told c = search needs
-
 copy-requires : tie.Need-copy-requires
 copy-requires c κs = rw (c .before .enum-told .given .1) at (c .before .before .before .before .before .pre .1)
-
-enum-told-2 : tie.Need-enum-told-2
-enum-told-2 c = search needs
 
 put-file-data-requires : tie.Need-put-file-data-requires
 put-file-data-requires c κs =
@@ -21,26 +15,14 @@ put-file-data-requires c κs =
     let e = c .before .enum-told2 .given .1 in
     (not-longer 111 (now (s .args .text)) (rw e at (s .pre .0)), rw e at (s .pre .1))
 
-enum-told-3 : tie.Need-enum-told-3
-enum-told-3 c = search needs
-
 copy-requires-2 : tie.Need-copy-requires-2
 copy-requires-2 c κs = rw (c .before .enum-told3 .given .1) at (c .before .before .before .before .before .pre .1)
-
-same-length : tie.Need-same-length
-same-length c = search needs
 
 returns : tie.Need-returns
 returns c = rw (c .before .before .before .before .enum-told .given .1) (c .before .before .copy .ensures)
 
-same-length-2 : tie.Need-same-length-2
-same-length-2 c = search needs
-
 returns-2 : tie.Need-returns-2
 returns-2 c = rw (c .before .before .before .before .enum-told2 .given .1) (c .before .before .put-file-data .ensures)
-
-same-length-3 : tie.Need-same-length-3
-same-length-3 c = search needs
 
 returns-3 : tie.Need-returns-3
 returns-3 c = rw (c .before .before .before .before .enum-told3 .given .1) (c .before .before .copy2 .ensures)
@@ -49,15 +31,15 @@ pub put-part-file-spec : {M : Type 1} → statement M
 put-part-file-spec =
     tie.close
     (tie.spec
-    enum-told
+    (λ c. search needs)
     copy-requires
-    enum-told-2
+    (λ c. search needs)
     put-file-data-requires
-    enum-told-3
+    (λ c. search needs)
     copy-requires-2
-    same-length
+    (λ c. search needs)
     returns
-    same-length-2
+    (λ c. search needs)
     returns-2
-    same-length-3
+    (λ c. search needs)
     returns-3)

@@ -4,29 +4,11 @@ use borrow.Author.Needs.{needs}
 use Rattle.parts.proofs.part.put_part_sample.Statement.{statement}
 use Rattle.parts.proofs.part.put_part_sample.Tie as tie
 
-enum-told : tie.Need-enum-told
-enum-told c = search needs
-
-enum-told-2 : tie.Need-enum-told-2
-enum-told-2 c = search needs
-
 put-samples-requires : tie.Need-put-samples-requires
 put-samples-requires c κs = rw (c .before .enum-told2 .given .1) at (c .before .before .before .before .before .pre)
 
-enum-told-3 : tie.Need-enum-told-3
-enum-told-3 c = search needs
-
-enum-told-4 : tie.Need-enum-told-4
-enum-told-4 c = search needs
-
-enum-told-5 : tie.Need-enum-told-5
-enum-told-5 c = search needs
-
 returns : tie.Need-returns
 returns c = rw (c .enum-told .given .1)
-
-same-length : tie.Need-same-length
-same-length c = search needs
 
 returns-2 : tie.Need-returns-2
 returns-2 c = rw (c .before .before .before .before .enum-told2 .given .1) (c .before .before .put-samples .ensures)
@@ -44,14 +26,14 @@ pub put-part-sample-spec : {M : Type 1} → statement M
 put-part-sample-spec =
     tie.close
     (tie.spec
-    enum-told
-    enum-told-2
+    (λ c. search needs)
+    (λ c. search needs)
     put-samples-requires
-    enum-told-3
-    enum-told-4
-    enum-told-5
+    (λ c. search needs)
+    (λ c. search needs)
+    (λ c. search needs)
     returns
-    same-length
+    (λ c. search needs)
     returns-2
     returns-3
     returns-4

@@ -12,24 +12,6 @@ use Rattle.parts.proofs.Laws.Sizes.{length-name}
 use Rattle.parts.proofs.part.put_scale_dump_1.Statement.{statement}
 use Rattle.parts.proofs.part.put_scale_dump_1.Tie as tie
 
-put-name-16-requires : tie.Need-put-name-16-requires
-put-name-16-requires c κs = search needs
-
-sub-put-scale-1 : tie.Need-sub-put-scale-1
-sub-put-scale-1 c = search needs
-
-part-put-scale-1-start : tie.Need-part-put-scale-1-start
-part-put-scale-1-start c = search needs
-
-part-put-scale-1-end : tie.Need-part-put-scale-1-end
-part-put-scale-1-end c = search needs
-
-put-scale-1-requires : tie.Need-put-scale-1-requires
-put-scale-1-requires c κs = search needs
-
-same-length : tie.Need-same-length
-same-length c = search needs
-
 returns : tie.Need-returns
 returns c =
     let p = c .before .before in
@@ -43,10 +25,10 @@ pub put-scale-dump-1-spec : {M : Type 1} → statement M
 put-scale-dump-1-spec =
     tie.close
     (tie.spec
-    put-name-16-requires
-    sub-put-scale-1
-    part-put-scale-1-start
-    part-put-scale-1-end
-    put-scale-1-requires
-    same-length
+    (λ c κs. search needs)
+    (λ c. search needs)
+    (λ c. search needs)
+    (λ c. search needs)
+    (λ c κs. search needs)
+    (λ c. search needs)
     returns)

@@ -12,24 +12,6 @@ use Rattle.parts.proofs.Laws.Sizes.{length-name}
 use Rattle.parts.proofs.part.put_scale_dump_2.Statement.{statement}
 use Rattle.parts.proofs.part.put_scale_dump_2.Tie as tie
 
-put-name-16-requires : tie.Need-put-name-16-requires
-put-name-16-requires c κs = search needs
-
-sub-put-scale-2 : tie.Need-sub-put-scale-2
-sub-put-scale-2 c = search needs
-
-part-put-scale-2-start : tie.Need-part-put-scale-2-start
-part-put-scale-2-start c = search needs
-
-part-put-scale-2-end : tie.Need-part-put-scale-2-end
-part-put-scale-2-end c = search needs
-
-put-scale-2-requires : tie.Need-put-scale-2-requires
-put-scale-2-requires c κs = search needs
-
-same-length : tie.Need-same-length
-same-length c = search needs
-
 returns : tie.Need-returns
 returns c =
     let p = c .before .before in
@@ -43,10 +25,10 @@ pub put-scale-dump-2-spec : {M : Type 1} → statement M
 put-scale-dump-2-spec =
     tie.close
     (tie.spec
-    put-name-16-requires
-    sub-put-scale-2
-    part-put-scale-2-start
-    part-put-scale-2-end
-    put-scale-2-requires
-    same-length
+    (λ c κs. search needs)
+    (λ c. search needs)
+    (λ c. search needs)
+    (λ c. search needs)
+    (λ c κs. search needs)
+    (λ c. search needs)
     returns)

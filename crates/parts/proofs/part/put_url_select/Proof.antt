@@ -26,32 +26,11 @@ first c =
       fits = omega (arith, s .pre, c .at-most .ensures);
     }
 
-put-url-requires : tie.Need-put-url-requires
-put-url-requires c κs = search needs
-
-at-most-requires : tie.Need-at-most-requires
-at-most-requires c κs = search needs
-
-add-at : tie.Need-add-at
-add-at c = search needs
-
-sub-put-select : tie.Need-sub-put-select
-sub-put-select c = search needs
-
-part-put-select-start : tie.Need-part-put-select-start
-part-put-select-start c = search needs
-
-part-put-select-end : tie.Need-part-put-select-end
-part-put-select-end c = search needs
-
 put-select-requires : tie.Need-put-select-requires
 put-select-requires c κs =
     let a = c .before in
     let s = a .before .before .before .before .before .before .before .before in
     run-room (first a) _ (omega (arith, s .pre, a .at-most .ensures))
-
-same-length : tie.Need-same-length
-same-length c = search needs
 
 returns : tie.Need-returns
 returns c =
@@ -65,12 +44,12 @@ pub put-url-select-spec : {M : Type 1} → statement M
 put-url-select-spec =
     tie.close
     (tie.spec
-    put-url-requires
-    at-most-requires
-    add-at
-    sub-put-select
-    part-put-select-start
-    part-put-select-end
+    (λ c κs. search needs)
+    (λ c κs. search needs)
+    (λ c. search needs)
+    (λ c. search needs)
+    (λ c. search needs)
+    (λ c. search needs)
     put-select-requires
-    same-length
+    (λ c. search needs)
     returns)

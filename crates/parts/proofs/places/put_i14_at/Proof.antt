@@ -14,21 +14,6 @@ use Rattle.parts.proofs.Laws.Places.{signed-is}
 use Rattle.parts.proofs.places.put_i14_at.Statement.{statement}
 use Rattle.parts.proofs.places.put_i14_at.Tie as tie
 
-sub-put-i14 : tie.Need-sub-put-i14
-sub-put-i14 c = search needs
-
-part-put-i14-start : tie.Need-part-put-i14-start
-part-put-i14-start c = search needs
-
-part-put-i14-end : tie.Need-part-put-i14-end
-part-put-i14-end c = search needs
-
-put-i14-requires : tie.Need-put-i14-requires
-put-i14-requires c κs = search needs
-
-same-length : tie.Need-same-length
-same-length c = search needs
-
 returns : tie.Need-returns
 returns c =
     let p = c .before .before in
@@ -40,4 +25,4 @@ returns c =
 pub put-i14-at-spec : {M : Type 1} → statement M
 put-i14-at-spec =
     tie.close
-    (tie.spec sub-put-i14 part-put-i14-start part-put-i14-end put-i14-requires same-length returns)
+    (tie.spec (λ c. search needs) (λ c. search needs) (λ c. search needs) (λ c κs. search needs) (λ c. search needs) returns)

@@ -14,21 +14,6 @@ use Rattle.parts.proofs.Laws.Places.{signed-is}
 use Rattle.parts.proofs.places.put_i7_at.Statement.{statement}
 use Rattle.parts.proofs.places.put_i7_at.Tie as tie
 
-sub-put-i7 : tie.Need-sub-put-i7
-sub-put-i7 c = search needs
-
-part-put-i7-start : tie.Need-part-put-i7-start
-part-put-i7-start c = search needs
-
-part-put-i7-end : tie.Need-part-put-i7-end
-part-put-i7-end c = search needs
-
-put-i7-requires : tie.Need-put-i7-requires
-put-i7-requires c κs = search needs
-
-same-length : tie.Need-same-length
-same-length c = search needs
-
 returns : tie.Need-returns
 returns c =
     let p = c .before .before in
@@ -40,4 +25,4 @@ returns c =
 pub put-i7-at-spec : {M : Type 1} → statement M
 put-i7-at-spec =
     tie.close
-    (tie.spec sub-put-i7 part-put-i7-start part-put-i7-end put-i7-requires same-length returns)
+    (tie.spec (λ c. search needs) (λ c. search needs) (λ c. search needs) (λ c κs. search needs) (λ c. search needs) returns)

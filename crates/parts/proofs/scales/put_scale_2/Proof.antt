@@ -10,9 +10,6 @@ use Rattle.parts.proofs.Laws.Places.{none, then-four}
 use Rattle.parts.proofs.scales.put_scale_2.Statement.{statement}
 use Rattle.parts.proofs.scales.put_scale_2.Tie as tie
 
-put-four-2-requires : tie.Need-put-four-2-requires
-put-four-2-requires c κs = search needs
-
 put-four-2-requires-2 : tie.Need-put-four-2-requires-2
 put-four-2-requires-2 c κs =
     let w1 = c .before .before .before .before .before .before .before in
@@ -46,4 +43,4 @@ returns c =
 pub put-scale-2-spec : {M : Type 1} → statement M
 put-scale-2-spec =
     tie.close
-    (tie.spec put-four-2-requires put-four-2-requires-2 put-four-2-requires-3 same-length returns)
+    (tie.spec (λ c κs. search needs) put-four-2-requires-2 put-four-2-requires-3 same-length returns)

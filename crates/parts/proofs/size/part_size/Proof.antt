@@ -5,80 +5,14 @@ use borrow.Author.Needs.{needs}
 use Rattle.parts.proofs.size.part_size.Statement.{statement}
 use Rattle.parts.proofs.size.part_size.Tie as tie
 
-enum-known-m : tie.Need-enum-known-m
-enum-known-m c = search needs
-
-size-sample-requires : tie.Need-size-sample-requires
-size-sample-requires c κs = search needs
-
-enum-known-m-2 : tie.Need-enum-known-m-2
-enum-known-m-2 c = search needs
-
-size-extended-requires : tie.Need-size-extended-requires
-size-extended-requires c κs = search needs
-
-enum-told : tie.Need-enum-told
-enum-told c = search needs
-
-enum-told-2 : tie.Need-enum-told-2
-enum-told-2 c = search needs
-
-enum-known-m-3 : tie.Need-enum-known-m-3
-enum-known-m-3 c = search needs
-
 size-file-requires : tie.Need-size-file-requires
 size-file-requires c κs = rw (c .before .m3 .given .1) at (c .before .before .before .pre)
-
-enum-told-3 : tie.Need-enum-told-3
-enum-told-3 c = search needs
-
-enum-told-4 : tie.Need-enum-told-4
-enum-told-4 c = search needs
-
-enum-told-5 : tie.Need-enum-told-5
-enum-told-5 c = search needs
-
-enum-told-6 : tie.Need-enum-told-6
-enum-told-6 c = search needs
-
-enum-told-7 : tie.Need-enum-told-7
-enum-told-7 c = search needs
 
 mul-result : tie.Need-mul-result
 mul-result c = omega (arith, rw (c .enum-told7 .given .1) at (c .before .before .pre))
 
 add-result : tie.Need-add-result
 add-result c = omega (arith, rw (c .enum-told7 .given .1) at (c .before .before .pre))
-
-enum-told-8 : tie.Need-enum-told-8
-enum-told-8 c = search needs
-
-enum-told-9 : tie.Need-enum-told-9
-enum-told-9 c = search needs
-
-enum-told-10 : tie.Need-enum-told-10
-enum-told-10 c = search needs
-
-enum-known-m-4 : tie.Need-enum-known-m-4
-enum-known-m-4 c = search needs
-
-size-reference-requires : tie.Need-size-reference-requires
-size-reference-requires c κs = search needs
-
-enum-told-11 : tie.Need-enum-told-11
-enum-told-11 c = search needs
-
-enum-told-12 : tie.Need-enum-told-12
-enum-told-12 c = search needs
-
-enum-told-13 : tie.Need-enum-told-13
-enum-told-13 c = search needs
-
-enum-told-14 : tie.Need-enum-told-14
-enum-told-14 c = search needs
-
-enum-told-15 : tie.Need-enum-told-15
-enum-told-15 c = search needs
 
 returns : tie.Need-returns
 returns c = rw (c .before .before .m .given .1) (c .size-sample .ensures)
@@ -141,31 +75,31 @@ pub part-size-spec : {M : Type 1} → statement M
 part-size-spec =
     tie.close
     (tie.spec
-    enum-known-m
-    size-sample-requires
-    enum-known-m-2
-    size-extended-requires
-    enum-told
-    enum-told-2
-    enum-known-m-3
+    (λ c. search needs)
+    (λ c κs. search needs)
+    (λ c. search needs)
+    (λ c κs. search needs)
+    (λ c. search needs)
+    (λ c. search needs)
+    (λ c. search needs)
     size-file-requires
-    enum-told-3
-    enum-told-4
-    enum-told-5
-    enum-told-6
-    enum-told-7
+    (λ c. search needs)
+    (λ c. search needs)
+    (λ c. search needs)
+    (λ c. search needs)
+    (λ c. search needs)
     mul-result
     add-result
-    enum-told-8
-    enum-told-9
-    enum-told-10
-    enum-known-m-4
-    size-reference-requires
-    enum-told-11
-    enum-told-12
-    enum-told-13
-    enum-told-14
-    enum-told-15
+    (λ c. search needs)
+    (λ c. search needs)
+    (λ c. search needs)
+    (λ c. search needs)
+    (λ c κs. search needs)
+    (λ c. search needs)
+    (λ c. search needs)
+    (λ c. search needs)
+    (λ c. search needs)
+    (λ c. search needs)
     returns
     returns-2
     returns-3

@@ -5,12 +5,6 @@ use borrow.Author.Needs.{needs}
 use Rattle.parts.proofs.size.size_file.Statement.{statement}
 use Rattle.parts.proofs.size.size_file.Tie as tie
 
-enum-told : tie.Need-enum-told
-enum-told c = search needs
-
-enum-told-2 : tie.Need-enum-told-2
-enum-told-2 c = search needs
-
 add-result : tie.Need-add-result
 add-result c = omega (arith, rw (c .enum-told2 .given .1) at (c .before .before .pre))
 
@@ -19,9 +13,6 @@ add-result-2 c = omega (arith, rw (c .enum-told2 .given .1) at (c .before .befor
 
 add-result-3 : tie.Need-add-result-3
 add-result-3 c = omega (arith, rw (c .enum-told2 .given .1) at (c .before .before .pre))
-
-enum-told-3 : tie.Need-enum-told-3
-enum-told-3 c = search needs
 
 returns : tie.Need-returns
 returns c = rw (c .enum-told .given .1)
@@ -36,12 +27,12 @@ pub size-file-spec : {M : Type 1} → statement M
 size-file-spec =
     tie.close
     (tie.spec
-    enum-told
-    enum-told-2
+    (λ c. search needs)
+    (λ c. search needs)
     add-result
     add-result-2
     add-result-3
-    enum-told-3
+    (λ c. search needs)
     returns
     returns-2
     returns-3)

@@ -19,35 +19,11 @@ use Rattle.parts.proofs.text.put_filled.Tie as tie
 many : (c : tie.After-at-most) → length (take (c .at-most .result) (now (c .before .before .before .args .s))) ≡ c .at-most .result
 many c = length-take-le (c .at-most .result) (now (c .before .before .before .args .s)) (omega (arith, c .at-most .ensures))
 
-at-most-requires : tie.Need-at-most-requires
-at-most-requires c κs = search needs
-
 slice-aggregate-put-held : tie.Need-slice-aggregate-put-held
 slice-aggregate-put-held c = sym (many (c .before .before))
 
 put-held-requires : tie.Need-put-held-requires
 put-held-requires c κs = let m = c .before .before in omega (arith, many m, m .at-most .ensures, m .before .before .before .pre)
-
-held-requires : tie.Need-held-requires
-held-requires c κs = search needs
-
-sub-fill : tie.Need-sub-fill
-sub-fill c = search needs
-
-part-fill-start : tie.Need-part-fill-start
-part-fill-start c = search needs
-
-part-fill-end : tie.Need-part-fill-end
-part-fill-end c = search needs
-
-sub-fill-2 : tie.Need-sub-fill-2
-sub-fill-2 c = search needs
-
-fill-requires : tie.Need-fill-requires
-fill-requires c κs = search needs
-
-same-length : tie.Need-same-length
-same-length c = search needs
 
 returns : tie.Need-returns
 returns c =
@@ -70,14 +46,14 @@ pub put-filled-spec : {M : Type 1} → statement M
 put-filled-spec =
     tie.close
     (tie.spec
-    at-most-requires
+    (λ c κs. search needs)
     slice-aggregate-put-held
     put-held-requires
-    held-requires
-    sub-fill
-    part-fill-start
-    part-fill-end
-    sub-fill-2
-    fill-requires
-    same-length
+    (λ c κs. search needs)
+    (λ c. search needs)
+    (λ c. search needs)
+    (λ c. search needs)
+    (λ c. search needs)
+    (λ c κs. search needs)
+    (λ c. search needs)
     returns)

@@ -8,14 +8,8 @@ use Rattle.parts.proofs.Laws.Texts.{filled-is}
 use Rattle.parts.proofs.text.put_name_16.Statement.{statement}
 use Rattle.parts.proofs.text.put_name_16.Tie as tie
 
-put-filled-requires : tie.Need-put-filled-requires
-put-filled-requires c κs = search needs
-
-same-length : tie.Need-same-length
-same-length c = search needs
-
 returns : tie.Need-returns
 returns c = let s = c .before .before .before .before .before .before in c .before .before .put-filled .ensures ∙ fronts (now (s .args .out)) (sym (filled-is 16 32 (λ i. refl) 0 16 (now (s .args .s))))
 
 pub put-name-16-spec : {M : Type 1} → statement M
-put-name-16-spec = tie.close (tie.spec put-filled-requires same-length returns)
+put-name-16-spec = tie.close (tie.spec (λ c κs. search needs) (λ c. search needs) returns)

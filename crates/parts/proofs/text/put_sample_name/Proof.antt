@@ -27,23 +27,11 @@ both c =
     byte-then (now (s .args .out)) (fill-to 0 (m .at-most .result) (now (s .args .s))) (p .put-filled .last .0) (m .at-most .result) _
     (length-fill 0 _ _) (omega (arith, s .pre, m .at-most .ensures)) (p .put-filled .ensures)
 
-at-most-requires : tie.Need-at-most-requires
-at-most-requires c κs = search needs
-
-cast-out : tie.Need-cast-out
-cast-out c = search needs
-
-slice-write-out : tie.Need-slice-write-out
-slice-write-out c = search needs
-
 sub-put-filled : tie.Need-sub-put-filled
 sub-put-filled c = rw length-set (omega arith)
 
 part-put-filled-start : tie.Need-part-put-filled-start
 part-put-filled-start c = rw length-set (omega arith)
-
-part-put-filled-end : tie.Need-part-put-filled-end
-part-put-filled-end c = search needs
 
 put-filled-requires : tie.Need-put-filled-requires
 put-filled-requires c κs = let m = c .before in let s = m .before .before .before in byte-room (now (s .args .out)) (m .at-most .result) _ (omega (arith, m .at-most .ensures, s .pre))
@@ -62,12 +50,12 @@ pub put-sample-name-spec : {M : Type 1} → statement M
 put-sample-name-spec =
     tie.close
     (tie.spec
-    at-most-requires
-    cast-out
-    slice-write-out
+    (λ c κs. search needs)
+    (λ c. search needs)
+    (λ c. search needs)
     sub-put-filled
     part-put-filled-start
-    part-put-filled-end
+    (λ c. search needs)
     put-filled-requires
     same-length
     returns)

@@ -8,14 +8,8 @@ use Rattle.parts.proofs.Laws.Texts.{filled-is}
 use Rattle.parts.proofs.text.put_samples.Statement.{statement}
 use Rattle.parts.proofs.text.put_samples.Tie as tie
 
-put-filled-requires : tie.Need-put-filled-requires
-put-filled-requires c κs = search needs
-
-same-length : tie.Need-same-length
-same-length c = search needs
-
 returns : tie.Need-returns
 returns c = let s = c .before .before .before .before .before .before in c .before .before .put-filled .ensures ∙ fronts (now (s .args .out)) (sym (filled-is 120 0 (λ i. refl) 0 120 (now (s .args .s))))
 
 pub put-samples-spec : {M : Type 1} → statement M
-put-samples-spec = tie.close (tie.spec put-filled-requires same-length returns)
+put-samples-spec = tie.close (tie.spec (λ c κs. search needs) (λ c. search needs) returns)

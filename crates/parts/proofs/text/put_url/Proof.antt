@@ -18,20 +18,11 @@ use Rattle.parts.proofs.text.put_url.Tie as tie
 many : (c : tie.After-at-most) → length (take (c .at-most .result) (now (c .before .before .before .args .s))) ≡ c .at-most .result
 many c = length-take-le (c .at-most .result) (now (c .before .before .before .args .s)) (omega (arith, c .at-most .ensures))
 
-at-most-requires : tie.Need-at-most-requires
-at-most-requires c κs = search needs
-
 slice-aggregate-copy : tie.Need-slice-aggregate-copy
 slice-aggregate-copy c = sym (many (c .before .before))
 
 copy-requires : tie.Need-copy-requires
 copy-requires c κs = let m = c .before .before in omega (arith, many m, m .at-most .ensures, m .before .before .before .pre)
-
-slice-write-out : tie.Need-slice-write-out
-slice-write-out c = search needs
-
-same-length : tie.Need-same-length
-same-length c = search needs
 
 returns : tie.Need-returns
 returns c =
@@ -47,9 +38,9 @@ pub put-url-spec : {M : Type 1} → statement M
 put-url-spec =
     tie.close
     (tie.spec
-    at-most-requires
+    (λ c κs. search needs)
     slice-aggregate-copy
     copy-requires
-    slice-write-out
-    same-length
+    (λ c. search needs)
+    (λ c. search needs)
     returns)

@@ -28,38 +28,20 @@ is-BIN c = sym (c .spells5 .ensures)
 is-MAC : (c : tie.After-spells6) → same-four (type-chars MAC) (letters (c .before .before .before .before .before .before .before .before .before .before .before)) ≡ c .spells6 .result
 is-MAC c = sym (c .spells6 .ensures)
 
-spells-requires : tie.Need-spells-requires
-spells-requires c κs = search needs
-
 returns : tie.Need-returns
 returns c = rw (is-MIDI (c .before) ∙ c .if1 .taken)
-
-spells-requires-2 : tie.Need-spells-requires-2
-spells-requires-2 c κs = search needs
 
 returns-2 : tie.Need-returns-2
 returns-2 c = rw (is-MIDI (c .before .before .before) ∙ c .before .before .if1 .left, is-MIEX (c .before) ∙ c .if2 .taken)
 
-spells-requires-3 : tie.Need-spells-requires-3
-spells-requires-3 c κs = search needs
-
 returns-3 : tie.Need-returns-3
 returns-3 c = rw (is-MIDI (c .before .before .before .before .before) ∙ c .before .before .before .before .if1 .left, is-MIEX (c .before .before .before) ∙ c .before .before .if2 .left, is-ESEQ (c .before) ∙ c .if3 .taken)
-
-spells-requires-4 : tie.Need-spells-requires-4
-spells-requires-4 c κs = search needs
 
 returns-4 : tie.Need-returns-4
 returns-4 c = rw (is-MIDI (c .before .before .before .before .before .before .before) ∙ c .before .before .before .before .before .before .if1 .left, is-MIEX (c .before .before .before .before .before) ∙ c .before .before .before .before .if2 .left, is-ESEQ (c .before .before .before) ∙ c .before .before .if3 .left, is-TEXT (c .before) ∙ c .if4 .taken)
 
-spells-requires-5 : tie.Need-spells-requires-5
-spells-requires-5 c κs = search needs
-
 returns-5 : tie.Need-returns-5
 returns-5 c = rw (is-MIDI (c .before .before .before .before .before .before .before .before .before) ∙ c .before .before .before .before .before .before .before .before .if1 .left, is-MIEX (c .before .before .before .before .before .before .before) ∙ c .before .before .before .before .before .before .if2 .left, is-ESEQ (c .before .before .before .before .before) ∙ c .before .before .before .before .if3 .left, is-TEXT (c .before .before .before) ∙ c .before .before .if4 .left, is-BIN (c .before) ∙ c .if5 .taken)
-
-spells-requires-6 : tie.Need-spells-requires-6
-spells-requires-6 c κs = search needs
 
 returns-6 : tie.Need-returns-6
 returns-6 c = rw (is-MIDI (c .before .before .before .before .before .before .before .before .before .before .before) ∙ c .before .before .before .before .before .before .before .before .before .before .if1 .left, is-MIEX (c .before .before .before .before .before .before .before .before .before) ∙ c .before .before .before .before .before .before .before .before .if2 .left, is-ESEQ (c .before .before .before .before .before .before .before) ∙ c .before .before .before .before .before .before .if3 .left, is-TEXT (c .before .before .before .before .before) ∙ c .before .before .before .before .if4 .left, is-BIN (c .before .before .before) ∙ c .before .before .if5 .left, is-MAC (c .before) ∙ c .if6 .taken)
@@ -71,16 +53,16 @@ pub type-of-spec : {M : Type 1} → statement M
 type-of-spec =
     tie.close
     (tie.spec
-    spells-requires
+    (λ c κs. search needs)
     returns
-    spells-requires-2
+    (λ c κs. search needs)
     returns-2
-    spells-requires-3
+    (λ c κs. search needs)
     returns-3
-    spells-requires-4
+    (λ c κs. search needs)
     returns-4
-    spells-requires-5
+    (λ c κs. search needs)
     returns-5
-    spells-requires-6
+    (λ c κs. search needs)
     returns-6
     returns-7)

@@ -13,22 +13,10 @@ returns c = let s = c .before .before in sym (over-whole (now (s .args .s)) (s .
 returns-2 : tie.Need-returns-2
 returns-2 c = let s = c .before .before .before in sym (over-lone (now (s .args .s)) (s .pre) (c .if2 .taken))
 
-sub-i : tie.Need-sub-i
-sub-i c = search needs
-
-shared-slice-read-t : tie.Need-shared-slice-read-t
-shared-slice-read-t c = search needs
-
-sub-low-bits : tie.Need-sub-low-bits
-sub-low-bits c = search needs
-
-low-bits-requires : tie.Need-low-bits-requires
-low-bits-requires c κs = search needs
-
 returns-3 : tie.Need-returns-3
 returns-3 c = let e = c .before .before in let s = e .before .before .before in rw (c .low-bits .ensures) (sym (over-spare (now (s .args .s)) (s .pre) (e .before .if1 .left) (e .if2 .left)))
 
 pub is-none-over-spec : {M : Type 1} → statement M
 is-none-over-spec =
     tie.close
-    (tie.spec returns returns-2 sub-i shared-slice-read-t sub-low-bits low-bits-requires returns-3)
+    (tie.spec returns returns-2 (λ c. search needs) (λ c. search needs) (λ c. search needs) (λ c κs. search needs) returns-3)

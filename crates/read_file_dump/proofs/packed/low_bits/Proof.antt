@@ -12,15 +12,6 @@ parts : (c : tie.After-power)
     → c .before .args .t / 2 ^ c .before .args .k * c .power .result + c .before .args .t % 2 ^ c .before .args .k ≡ c .before .args .t
 parts c = rw (c .power .ensures) (split (c .before .args .t) (c .before .args .k))
 
-power-requires : tie.Need-power-requires
-power-requires c κs = search needs
-
-cast-result : tie.Need-cast-result
-cast-result c = search needs
-
-shr-result : tie.Need-shr-result
-shr-result c = search needs
-
 mul-result : tie.Need-mul-result
 mul-result c = omega (arith, parts c)
 
@@ -32,4 +23,4 @@ returns c = omega (arith, parts c)
 
 pub low-bits-spec : {M : Type 1} → statement M
 low-bits-spec =
-    tie.close (tie.spec power-requires cast-result shr-result mul-result sub-result returns)
+    tie.close (tie.spec (λ c κs. search needs) (λ c. search needs) (λ c. search needs) mul-result sub-result returns)

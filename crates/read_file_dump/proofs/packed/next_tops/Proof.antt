@@ -6,17 +6,8 @@ use Rattle.read_file_dump.proofs.Laws.Steps.{next-tops-low}
 use Rattle.read_file_dump.proofs.packed.next_tops.Statement.{statement}
 use Rattle.read_file_dump.proofs.packed.next_tops.Tie as tie
 
-sub-low-bits : tie.Need-sub-low-bits
-sub-low-bits c = search needs
-
-low-bits-requires : tie.Need-low-bits-requires
-low-bits-requires c κs = search needs
-
-returns : tie.Need-returns
-returns c = search needs
-
 returns-2 : tie.Need-returns-2
 returns-2 c = let a = c .before .before .args in c .low-bits .ensures ∙ next-tops-low (a .k) (a .t) (a .b) (c .before .if1 .left)
 
 pub next-tops-spec : {M : Type 1} → statement M
-next-tops-spec = tie.close (tie.spec sub-low-bits low-bits-requires returns returns-2)
+next-tops-spec = tie.close (tie.spec (λ c. search needs) (λ c κs. search needs) (λ c. search needs) returns-2)

@@ -5,11 +5,8 @@ use Rattle.read_file_dump.proofs.Laws.Steps.{power-table}
 use Rattle.read_file_dump.proofs.packed.power.Statement.{statement}
 use Rattle.read_file_dump.proofs.packed.power.Tie as tie
 
-array-read-result : tie.Need-array-read-result
-array-read-result c = search needs
-
 returns : tie.Need-returns
 returns c = power-table (c .args .k) (c .pre)
 
 pub power-spec : {M : Type 1} → statement M
-power-spec = tie.close (tie.spec array-read-result returns)
+power-spec = tie.close (tie.spec (λ c. search needs) returns)

@@ -12,15 +12,6 @@ use Rattle.read_file_dump.proofs.Laws.Steps.{data-byte-one, top-small}
 use Rattle.read_file_dump.proofs.packed.put_data_byte.Statement.{statement}
 use Rattle.read_file_dump.proofs.packed.put_data_byte.Tie as tie
 
-sub-j : tie.Need-sub-j
-sub-j c = search needs
-
-cast-out : tie.Need-cast-out
-cast-out c = search needs
-
-shr-out : tie.Need-shr-out
-shr-out c = search needs
-
 mul-out : tie.Need-mul-out
 mul-out c = let s = c .before in omega (arith, top-small (s .args .k) (s .args .t) (c .if1 .left) (s .pre .1))
 
@@ -29,12 +20,6 @@ add-out c = let s = c .before in omega (arith, top-small (s .args .k) (s .args .
 
 slice-write-out : tie.Need-slice-write-out
 slice-write-out c = let s = c .before in omega (arith, ap length (data-byte-one (s .args .k) (s .args .t) (s .args .b) (c .if1 .left)), s .pre .3)
-
-returns : tie.Need-returns
-returns c = search needs
-
-same-length : tie.Need-same-length
-same-length c = search needs
 
 returns-2 : tie.Need-returns-2
 returns-2 c =
@@ -46,4 +31,4 @@ returns-2 c =
 pub put-data-byte-spec : {M : Type 1} → statement M
 put-data-byte-spec =
     tie.close
-    (tie.spec sub-j cast-out shr-out mul-out add-out slice-write-out returns same-length returns-2)
+    (tie.spec (λ c. search needs) (λ c. search needs) (λ c. search needs) mul-out add-out slice-write-out (λ c. search needs) (λ c. search needs) returns-2)

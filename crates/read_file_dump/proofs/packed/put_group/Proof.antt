@@ -10,26 +10,11 @@ use Rattle.read_file_dump.proofs.Laws.Packed.{group-data}
 use Rattle.read_file_dump.proofs.packed.put_group.Statement.{statement}
 use Rattle.read_file_dump.proofs.packed.put_group.Tie as tie
 
-shared-slice-read-t : tie.Need-shared-slice-read-t
-shared-slice-read-t c = search needs
-
 mul-out : tie.Need-mul-out
 mul-out c = omega (arith, seven-get (now (c .before .args .g)) 0 (c .before .pre .0))
 
-shared-slice-read-out : tie.Need-shared-slice-read-out
-shared-slice-read-out c = search needs
-
 add-out : tie.Need-add-out
 add-out c = let s = c .before .before in omega (arith, seven-get (now (s .args .g)) 0 (s .pre .0), seven-get (now (s .args .g)) 1 (s .pre .0))
-
-slice-write-out : tie.Need-slice-write-out
-slice-write-out c = search needs
-
-mul-out-2 : tie.Need-mul-out-2
-mul-out-2 c = search needs
-
-shared-slice-read-out-2 : tie.Need-shared-slice-read-out-2
-shared-slice-read-out-2 c = search needs
 
 add-out-2 : tie.Need-add-out-2
 add-out-2 c = let s = c .before .before .before in omega (arith, seven-get (now (s .args .g)) 0 (s .pre .0), seven-get (now (s .args .g)) 2 (s .pre .0))
@@ -37,23 +22,11 @@ add-out-2 c = let s = c .before .before .before in omega (arith, seven-get (now 
 slice-write-out-2 : tie.Need-slice-write-out-2
 slice-write-out-2 c = simp length-set (omega arith)
 
-mul-out-3 : tie.Need-mul-out-3
-mul-out-3 c = search needs
-
-shared-slice-read-out-3 : tie.Need-shared-slice-read-out-3
-shared-slice-read-out-3 c = search needs
-
 add-out-3 : tie.Need-add-out-3
 add-out-3 c = let s = c .before .before .before .before in omega (arith, seven-get (now (s .args .g)) 0 (s .pre .0), seven-get (now (s .args .g)) 3 (s .pre .0))
 
 slice-write-out-3 : tie.Need-slice-write-out-3
 slice-write-out-3 c = simp length-set (omega arith)
-
-mul-out-4 : tie.Need-mul-out-4
-mul-out-4 c = search needs
-
-shared-slice-read-out-4 : tie.Need-shared-slice-read-out-4
-shared-slice-read-out-4 c = search needs
 
 add-out-4 : tie.Need-add-out-4
 add-out-4 c = let s = c .before .before .before .before .before in omega (arith, seven-get (now (s .args .g)) 0 (s .pre .0), seven-get (now (s .args .g)) 4 (s .pre .0))
@@ -61,35 +34,17 @@ add-out-4 c = let s = c .before .before .before .before .before in omega (arith,
 slice-write-out-4 : tie.Need-slice-write-out-4
 slice-write-out-4 c = simp length-set (omega arith)
 
-mul-out-5 : tie.Need-mul-out-5
-mul-out-5 c = search needs
-
-shared-slice-read-out-5 : tie.Need-shared-slice-read-out-5
-shared-slice-read-out-5 c = search needs
-
 add-out-5 : tie.Need-add-out-5
 add-out-5 c = let s = c .before .before .before .before .before .before in omega (arith, seven-get (now (s .args .g)) 0 (s .pre .0), seven-get (now (s .args .g)) 5 (s .pre .0))
 
 slice-write-out-5 : tie.Need-slice-write-out-5
 slice-write-out-5 c = simp length-set (omega arith)
 
-mul-out-6 : tie.Need-mul-out-6
-mul-out-6 c = search needs
-
-shared-slice-read-out-6 : tie.Need-shared-slice-read-out-6
-shared-slice-read-out-6 c = search needs
-
 add-out-6 : tie.Need-add-out-6
 add-out-6 c = let s = c .before .before .before .before .before .before .before in omega (arith, seven-get (now (s .args .g)) 0 (s .pre .0), seven-get (now (s .args .g)) 6 (s .pre .0))
 
 slice-write-out-6 : tie.Need-slice-write-out-6
 slice-write-out-6 c = simp length-set (omega arith)
-
-mul-out-7 : tie.Need-mul-out-7
-mul-out-7 c = search needs
-
-shared-slice-read-out-7 : tie.Need-shared-slice-read-out-7
-shared-slice-read-out-7 c = search needs
 
 add-out-7 : tie.Need-add-out-7
 add-out-7 c = let s = c .before .before .before .before .before .before .before .before in omega (arith, seven-get (now (s .args .g)) 0 (s .pre .0), seven-get (now (s .args .g)) 7 (s .pre .0))
@@ -107,33 +62,33 @@ pub put-group-spec : {M : Type 1} → statement M
 put-group-spec =
     tie.close
     (tie.spec
-    shared-slice-read-t
+    (λ c. search needs)
     mul-out
-    shared-slice-read-out
+    (λ c. search needs)
     add-out
-    slice-write-out
-    mul-out-2
-    shared-slice-read-out-2
+    (λ c. search needs)
+    (λ c. search needs)
+    (λ c. search needs)
     add-out-2
     slice-write-out-2
-    mul-out-3
-    shared-slice-read-out-3
+    (λ c. search needs)
+    (λ c. search needs)
     add-out-3
     slice-write-out-3
-    mul-out-4
-    shared-slice-read-out-4
+    (λ c. search needs)
+    (λ c. search needs)
     add-out-4
     slice-write-out-4
-    mul-out-5
-    shared-slice-read-out-5
+    (λ c. search needs)
+    (λ c. search needs)
     add-out-5
     slice-write-out-5
-    mul-out-6
-    shared-slice-read-out-6
+    (λ c. search needs)
+    (λ c. search needs)
     add-out-6
     slice-write-out-6
-    mul-out-7
-    shared-slice-read-out-7
+    (λ c. search needs)
+    (λ c. search needs)
     add-out-7
     slice-write-out-7
     same-length

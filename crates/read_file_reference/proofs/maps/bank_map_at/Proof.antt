@@ -10,27 +10,6 @@ use Rattle.read_file_reference.proofs.Laws.Picks.{bank-other, bank-maps
 use Rattle.read_file_reference.proofs.maps.bank_map_at.Statement.{statement}
 use Rattle.read_file_reference.proofs.maps.bank_map_at.Tie as tie
 
-sub-length : tie.Need-sub-length
-sub-length c = search needs
-
-bank-offset-at-requires : tie.Need-bank-offset-at-requires
-bank-offset-at-requires c κs = search needs
-
-returns : tie.Need-returns
-returns c = search needs
-
-at-requires : tie.Need-at-requires
-at-requires c κs = search needs
-
-wide-requires : tie.Need-wide-requires
-wide-requires c κs = search needs
-
-mul-if2 : tie.Need-mul-if2
-mul-if2 c = search needs
-
-add-if2 : tie.Need-add-if2
-add-if2 c = search needs
-
 returns-2 : tie.Need-returns-2
 returns-2 c =
     let s = c .before .before .before .before .before in
@@ -38,15 +17,6 @@ returns-2 c =
     let i = s .args .i in
     let e = c .before .wide .ensures .0 ∙ c .before .before .at .ensures in
     picks-none bank-only f i (bank-other f (s .pre .0) i (s .pre .1) (c .before .before .before .if1 .left) (λ x. c .if2 .taken (x ∙ ap (λ (v : ℕ). 1 + 8 * v) (sym e))))
-
-add-flags-fit : tie.Need-add-flags-fit
-add-flags-fit c = search needs
-
-flags-fit-requires : tie.Need-flags-fit-requires
-flags-fit-requires c κs = search needs
-
-add-t12 : tie.Need-add-t12
-add-t12 c = search needs
 
 returns-3 : tie.Need-returns-3
 returns-3 c =
@@ -70,16 +40,16 @@ pub bank-map-at-spec : {M : Type 1} → statement M
 bank-map-at-spec =
     tie.close
     (tie.spec
-    sub-length
-    bank-offset-at-requires
-    returns
-    at-requires
-    wide-requires
-    mul-if2
-    add-if2
+    (λ c. search needs)
+    (λ c κs. search needs)
+    (λ c. search needs)
+    (λ c κs. search needs)
+    (λ c κs. search needs)
+    (λ c. search needs)
+    (λ c. search needs)
     returns-2
-    add-flags-fit
-    flags-fit-requires
-    add-t12
+    (λ c. search needs)
+    (λ c κs. search needs)
+    (λ c. search needs)
     returns-3
     returns-4)

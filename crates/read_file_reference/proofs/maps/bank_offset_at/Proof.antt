@@ -12,15 +12,6 @@ use Rattle.read_file_reference.proofs.Laws.Picks.{bank-offset-found, ba
 use Rattle.read_file_reference.proofs.maps.bank_offset_at.Statement.{statement}
 use Rattle.read_file_reference.proofs.maps.bank_offset_at.Tie as tie
 
-offset-at-requires : tie.Need-offset-at-requires
-offset-at-requires c κs = search needs
-
-enum-known-bank-offset : tie.Need-enum-known-bank-offset
-enum-known-bank-offset c = search needs
-
-enum-told : tie.Need-enum-told
-enum-told c = search needs
-
 returns : tie.Need-returns
 returns c =
     let s = c .before .before .before .before .before in
@@ -39,4 +30,4 @@ returns-2 c =
 
 pub bank-offset-at-spec : {M : Type 1} → statement M
 bank-offset-at-spec =
-    tie.close (tie.spec offset-at-requires enum-known-bank-offset enum-told returns returns-2)
+    tie.close (tie.spec (λ c κs. search needs) (λ c. search needs) (λ c. search needs) returns returns-2)

@@ -14,15 +14,6 @@ use Rattle.read_file_reference.proofs.Laws.Maps.{offset-other, offset-b
 use Rattle.read_file_reference.proofs.maps.offset_at.Statement.{statement}
 use Rattle.read_file_reference.proofs.maps.offset_at.Tie as tie
 
-spells-requires : tie.Need-spells-requires
-spells-requires c κs = search needs
-
-add-at : tie.Need-add-at
-add-at c = search needs
-
-at-requires : tie.Need-at-requires
-at-requires c κs = search needs
-
 returns : tie.Need-returns
 returns c =
     let s = c .before .before .before .before .before in
@@ -30,12 +21,6 @@ returns c =
     let i = s .args .i in
     let e = sym (c .before .before .before .spells .ensures) ∙ ap (λ (t : Bool). only-if t (some (drop (i + 4) f))) (c .before .before .if1 .taken) in
     sym (offset-bad f (s .pre .0) i (s .pre .1) e (omega (arith, c .if2 .taken, c .before .at .ensures)))
-
-add-u14-at : tie.Need-add-u14-at
-add-u14-at c = search needs
-
-u14-at-requires : tie.Need-u14-at-requires
-u14-at-requires c κs = search needs
 
 returns-2 : tie.Need-returns-2
 returns-2 c =
@@ -58,11 +43,11 @@ pub offset-at-spec : {M : Type 1} → statement M
 offset-at-spec =
     tie.close
     (tie.spec
-    spells-requires
-    add-at
-    at-requires
+    (λ c κs. search needs)
+    (λ c. search needs)
+    (λ c κs. search needs)
     returns
-    add-u14-at
-    u14-at-requires
+    (λ c. search needs)
+    (λ c κs. search needs)
     returns-2
     returns-3)

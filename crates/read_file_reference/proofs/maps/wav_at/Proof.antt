@@ -10,49 +10,10 @@ use Rattle.reading.proofs.Laws.Numbers.{value-lt}
 use Rattle.read_file_reference.proofs.maps.wav_at.Statement.{statement}
 use Rattle.read_file_reference.proofs.maps.wav_at.Tie as tie
 
-u14-at-requires : tie.Need-u14-at-requires
-u14-at-requires c κs = search needs
-
-add-u7-at : tie.Need-add-u7-at
-add-u7-at c = search needs
-
-u7-at-requires : tie.Need-u7-at-requires
-u7-at-requires c κs = search needs
-
-add-u7-at-2 : tie.Need-add-u7-at-2
-add-u7-at-2 c = search needs
-
-u7-at-requires-2 : tie.Need-u7-at-requires-2
-u7-at-requires-2 c κs = search needs
-
-add-u7-at-3 : tie.Need-add-u7-at-3
-add-u7-at-3 c = search needs
-
-u7-at-requires-3 : tie.Need-u7-at-requires-3
-u7-at-requires-3 c κs = search needs
-
-add-u7-at-4 : tie.Need-add-u7-at-4
-add-u7-at-4 c = search needs
-
-u7-at-requires-4 : tie.Need-u7-at-requires-4
-u7-at-requires-4 c κs = search needs
-
-add-u14-at : tie.Need-add-u14-at
-add-u14-at c = search needs
-
-u14-at-requires-2 : tie.Need-u14-at-requires-2
-u14-at-requires-2 c κs = search needs
-
 u14-to-i-requires : tie.Need-u14-to-i-requires
 u14-to-i-requires c κs =
     let s = c .before .before .before .before .before .before .before in
     omega (arith, c .u14-at2 .ensures, value-lt (now (s .args .f)) (s .pre .0) 2 (s .args .i + 6) (omega (arith, s .pre .1)))
-
-add-u7-at-5 : tie.Need-add-u7-at-5
-add-u7-at-5 c = search needs
-
-u7-at-requires-5 : tie.Need-u7-at-requires-5
-u7-at-requires-5 c κs = search needs
 
 returns : tie.Need-returns
 returns c =
@@ -72,18 +33,18 @@ pub wav-at-spec : {M : Type 1} → statement M
 wav-at-spec =
     tie.close
     (tie.spec
-    u14-at-requires
-    add-u7-at
-    u7-at-requires
-    add-u7-at-2
-    u7-at-requires-2
-    add-u7-at-3
-    u7-at-requires-3
-    add-u7-at-4
-    u7-at-requires-4
-    add-u14-at
-    u14-at-requires-2
+    (λ c κs. search needs)
+    (λ c. search needs)
+    (λ c κs. search needs)
+    (λ c. search needs)
+    (λ c κs. search needs)
+    (λ c. search needs)
+    (λ c κs. search needs)
+    (λ c. search needs)
+    (λ c κs. search needs)
+    (λ c. search needs)
+    (λ c κs. search needs)
     u14-to-i-requires
-    add-u7-at-5
-    u7-at-requires-5
+    (λ c. search needs)
+    (λ c κs. search needs)
     returns)

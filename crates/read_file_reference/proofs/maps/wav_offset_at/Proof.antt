@@ -12,21 +12,6 @@ use Rattle.read_file_reference.proofs.Laws.Picks.{wav-offset-found, wav
 use Rattle.read_file_reference.proofs.maps.wav_offset_at.Statement.{statement}
 use Rattle.read_file_reference.proofs.maps.wav_offset_at.Tie as tie
 
-wav-at-requires : tie.Need-wav-at-requires
-wav-at-requires c κs = search needs
-
-add-offset-at : tie.Need-add-offset-at
-add-offset-at c = search needs
-
-offset-at-requires : tie.Need-offset-at-requires
-offset-at-requires c κs = search needs
-
-enum-known-bank-offset : tie.Need-enum-known-bank-offset
-enum-known-bank-offset c = search needs
-
-enum-told : tie.Need-enum-told
-enum-told c = search needs
-
 returns : tie.Need-returns
 returns c =
     let s = c .before .before .before .before .before .before in
@@ -47,10 +32,10 @@ pub wav-offset-at-spec : {M : Type 1} → statement M
 wav-offset-at-spec =
     tie.close
     (tie.spec
-    wav-at-requires
-    add-offset-at
-    offset-at-requires
-    enum-known-bank-offset
-    enum-told
+    (λ c κs. search needs)
+    (λ c. search needs)
+    (λ c κs. search needs)
+    (λ c. search needs)
+    (λ c. search needs)
     returns
     returns-2)

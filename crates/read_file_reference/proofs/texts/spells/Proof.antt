@@ -8,20 +8,11 @@ use Rattle.read_file_reference.proofs.Laws.Texts.{strip-at}
 use Rattle.read_file_reference.proofs.texts.spells.Statement.{statement}
 use Rattle.read_file_reference.proofs.texts.spells.Tie as tie
 
-at-requires : tie.Need-at-requires
-at-requires c κs = search needs
-
 returns : tie.Need-returns
 returns c =
     let s = c .before .before .before in
     let z = s .args in
     rw (strip-at (now (z .f)) (z .i) (z .a) (z .b) (z .c) (z .d) (s .pre), ne-eqb _ _ (λ e. c .if1 .taken (e ∙ sym (c .before .at .ensures))))
-
-add-at : tie.Need-add-at
-add-at c = search needs
-
-at-requires-2 : tie.Need-at-requires-2
-at-requires-2 c κs = search needs
 
 returns-2 : tie.Need-returns-2
 returns-2 c =
@@ -33,12 +24,6 @@ returns-2 c =
       ne-eqb _ _ (λ e. c .if2 .taken (e ∙ sym (c .before .at2 .ensures))),
     )
 
-add-at-2 : tie.Need-add-at-2
-add-at-2 c = search needs
-
-at-requires-3 : tie.Need-at-requires-3
-at-requires-3 c κs = search needs
-
 returns-3 : tie.Need-returns-3
 returns-3 c =
     let s = c .before .before .before .before .before .before .before in
@@ -49,12 +34,6 @@ returns-3 c =
       eq-eqb _ _ (c .before .before .if2 .left ∙ c .before .before .before .at2 .ensures),
       ne-eqb _ _ (λ e. c .if3 .taken (e ∙ sym (c .before .at3 .ensures))),
     )
-
-add-at-3 : tie.Need-add-at-3
-add-at-3 c = search needs
-
-at-requires-4 : tie.Need-at-requires-4
-at-requires-4 c κs = search needs
 
 returns-4 : tie.Need-returns-4
 returns-4 c =
@@ -72,14 +51,14 @@ pub spells-spec : {M : Type 1} → statement M
 spells-spec =
     tie.close
     (tie.spec
-    at-requires
+    (λ c κs. search needs)
     returns
-    add-at
-    at-requires-2
+    (λ c. search needs)
+    (λ c κs. search needs)
     returns-2
-    add-at-2
-    at-requires-3
+    (λ c. search needs)
+    (λ c κs. search needs)
     returns-3
-    add-at-3
-    at-requires-4
+    (λ c. search needs)
+    (λ c κs. search needs)
     returns-4)

@@ -4,21 +4,12 @@ use borrow.Author.Needs.{needs}
 use Rattle.read_file_reference.proofs.texts.type_at.Statement.{statement}
 use Rattle.read_file_reference.proofs.texts.type_at.Tie as tie
 
-spells-requires : tie.Need-spells-requires
-spells-requires c κs = search needs
-
 returns : tie.Need-returns
 returns c = rw (← (c .before .spells .ensures), c .if1 .taken)
-
-spells-requires-2 : tie.Need-spells-requires-2
-spells-requires-2 c κs = search needs
 
 returns-2 : tie.Need-returns-2
 returns-2 c =
     rw (← (c .before .before .before .spells .ensures), c .before .before .if1 .left, ← (c .before .spells2 .ensures), c .if2 .taken)
-
-spells-requires-3 : tie.Need-spells-requires-3
-spells-requires-3 c κs = search needs
 
 returns-3 : tie.Need-returns-3
 returns-3 c =
@@ -46,10 +37,10 @@ pub type-at-spec : {M : Type 1} → statement M
 type-at-spec =
     tie.close
     (tie.spec
-    spells-requires
+    (λ c κs. search needs)
     returns
-    spells-requires-2
+    (λ c κs. search needs)
     returns-2
-    spells-requires-3
+    (λ c κs. search needs)
     returns-3
     returns-4)

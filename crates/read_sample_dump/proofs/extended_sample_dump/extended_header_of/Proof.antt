@@ -9,30 +9,6 @@ use Rattle.read_sample_dump.proofs.Laws.ExtendedSampleDump.{header-read
 use Rattle.read_sample_dump.proofs.extended_sample_dump.extended_header_of.Statement.{statement}
 use Rattle.read_sample_dump.proofs.extended_sample_dump.extended_header_of.Tie as tie
 
-u14-at-requires : tie.Need-u14-at-requires
-u14-at-requires c κs = search needs
-
-at-requires : tie.Need-at-requires
-at-requires c κs = search needs
-
-u28-at-requires : tie.Need-u28-at-requires
-u28-at-requires c κs = search needs
-
-u28-at-requires-2 : tie.Need-u28-at-requires-2
-u28-at-requires-2 c κs = search needs
-
-u35-at-requires : tie.Need-u35-at-requires
-u35-at-requires c κs = search needs
-
-u35-at-requires-2 : tie.Need-u35-at-requires-2
-u35-at-requires-2 c κs = search needs
-
-u35-at-requires-3 : tie.Need-u35-at-requires-3
-u35-at-requires-3 c κs = search needs
-
-u7-at-requires : tie.Need-u7-at-requires
-u7-at-requires c κs = search needs
-
 returns : tie.Need-returns
 returns c =
     let s = c .before .before .before .before .before .before .before .before .before in
@@ -57,12 +33,12 @@ pub extended-header-of-spec : {M : Type 1} → statement M
 extended-header-of-spec =
     tie.close
     (tie.spec
-    u14-at-requires
-    at-requires
-    u28-at-requires
-    u28-at-requires-2
-    u35-at-requires
-    u35-at-requires-2
-    u35-at-requires-3
-    u7-at-requires
+    (λ c κs. search needs)
+    (λ c κs. search needs)
+    (λ c κs. search needs)
+    (λ c κs. search needs)
+    (λ c κs. search needs)
+    (λ c κs. search needs)
+    (λ c κs. search needs)
+    (λ c κs. search needs)
     returns)

@@ -9,21 +9,6 @@ use Rattle.read_sample_dump.proofs.Laws.ExtendedSampleDump.{loop-points
 use Rattle.read_sample_dump.proofs.extended_sample_dump.extended_loop_points_of.Statement.{statement}
 use Rattle.read_sample_dump.proofs.extended_sample_dump.extended_loop_points_of.Tie as tie
 
-u14-at-requires : tie.Need-u14-at-requires
-u14-at-requires c κs = search needs
-
-u14-at-requires-2 : tie.Need-u14-at-requires-2
-u14-at-requires-2 c κs = search needs
-
-loop-number-requires : tie.Need-loop-number-requires
-loop-number-requires c κs = search needs
-
-u35-at-requires : tie.Need-u35-at-requires
-u35-at-requires c κs = search needs
-
-u35-at-requires-2 : tie.Need-u35-at-requires-2
-u35-at-requires-2 c κs = search needs
-
 returns : tie.Need-returns
 returns c =
     let s = c .before .before .before .before .before .before in
@@ -45,9 +30,9 @@ pub extended-loop-points-of-spec : {M : Type 1} → statement M
 extended-loop-points-of-spec =
     tie.close
     (tie.spec
-    u14-at-requires
-    u14-at-requires-2
-    loop-number-requires
-    u35-at-requires
-    u35-at-requires-2
+    (λ c κs. search needs)
+    (λ c κs. search needs)
+    (λ c κs. search needs)
+    (λ c κs. search needs)
+    (λ c κs. search needs)
     returns)

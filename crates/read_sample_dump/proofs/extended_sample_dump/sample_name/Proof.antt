@@ -14,26 +14,11 @@ use Rattle.read_sample_dump.proofs.extended_sample_dump.sample_name.Tie
 returns : tie.Need-returns
 returns c = let s = c .before .before in reads-none head.SampleName _ (name-not (now (s .args .f)) (s .pre) (λ m z n. omega (arith, c .if1 .taken)))
 
-at-requires : tie.Need-at-requires
-at-requires c κs = search needs
-
 returns-2 : tie.Need-returns-2
 returns-2 c = let s = c .before .before .before .before in reads-none head.SampleName _ (name-not (now (s .args .f)) (s .pre) (λ m z n. c .if2 .taken (c .before .at .ensures ∙ z)))
 
-at-requires-2 : tie.Need-at-requires-2
-at-requires-2 c κs = search needs
-
-cast-n : tie.Need-cast-n
-cast-n c = search needs
-
-add-if3 : tie.Need-add-if3
-add-if3 c = search needs
-
 returns-3 : tie.Need-returns-3
 returns-3 c = let s = c .before .before .before .before .before .before in reads-none head.SampleName _ (name-not (now (s .args .f)) (s .pre) (λ m z n. c .if3 .taken (n ∙ ap (λ (v : ℕ). 4 + v) (sym (c .before .at2 .ensures)))))
-
-u14-at-requires : tie.Need-u14-at-requires
-u14-at-requires c κs = search needs
 
 returns-4 : tie.Need-returns-4
 returns-4 c =
@@ -52,11 +37,11 @@ sample-name-spec =
     tie.close
     (tie.spec
     returns
-    at-requires
+    (λ c κs. search needs)
     returns-2
-    at-requires-2
-    cast-n
-    add-if3
+    (λ c κs. search needs)
+    (λ c. search needs)
+    (λ c. search needs)
     returns-3
-    u14-at-requires
+    (λ c κs. search needs)
     returns-4)

@@ -9,24 +9,6 @@ use Rattle.read_sample_dump.proofs.Laws.SampleDump.{header-reads}
 use Rattle.read_sample_dump.proofs.sample_dump.header_of.Statement.{statement}
 use Rattle.read_sample_dump.proofs.sample_dump.header_of.Tie as tie
 
-u14-at-requires : tie.Need-u14-at-requires
-u14-at-requires c κs = search needs
-
-at-requires : tie.Need-at-requires
-at-requires c κs = search needs
-
-u21-at-requires : tie.Need-u21-at-requires
-u21-at-requires c κs = search needs
-
-u21-at-requires-2 : tie.Need-u21-at-requires-2
-u21-at-requires-2 c κs = search needs
-
-u21-at-requires-3 : tie.Need-u21-at-requires-3
-u21-at-requires-3 c κs = search needs
-
-u21-at-requires-4 : tie.Need-u21-at-requires-4
-u21-at-requires-4 c κs = search needs
-
 returns : tie.Need-returns
 returns c =
     let s = c .before .before .before .before .before .before .before in
@@ -49,10 +31,10 @@ pub header-of-spec : {M : Type 1} → statement M
 header-of-spec =
     tie.close
     (tie.spec
-    u14-at-requires
-    at-requires
-    u21-at-requires
-    u21-at-requires-2
-    u21-at-requires-3
-    u21-at-requires-4
+    (λ c κs. search needs)
+    (λ c κs. search needs)
+    (λ c κs. search needs)
+    (λ c κs. search needs)
+    (λ c κs. search needs)
+    (λ c κs. search needs)
     returns)

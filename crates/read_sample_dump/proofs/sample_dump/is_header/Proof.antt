@@ -12,30 +12,18 @@ use Rattle.read_sample_dump.proofs.sample_dump.is_header.Tie as tie
 returns : tie.Need-returns
 returns c = let s = c .before in sym (ap is-read (header-not (now (s .args .f)) (s .pre) (λ n p q t e. c .if1 .taken n)))
 
-shared-slice-read-if2 : tie.Need-shared-slice-read-if2
-shared-slice-read-if2 c = search needs
-
 returns-2 : tie.Need-returns-2
 returns-2 c = let s = c .before .before .before in
     sym (ap is-read (header-not (now (s .args .f)) (s .pre) (λ n p q t e. omega (arith, c .if2 .taken))))
-
-shared-slice-read-if3 : tie.Need-shared-slice-read-if3
-shared-slice-read-if3 c = search needs
 
 returns-3 : tie.Need-returns-3
 returns-3 c = let s = c .before .before .before .before .before in
     sym (ap is-read (header-not (now (s .args .f)) (s .pre) (λ n p q t e. omega (arith, c .if3 .taken))))
 
-shared-slice-read-if4 : tie.Need-shared-slice-read-if4
-shared-slice-read-if4 c = search needs
-
 returns-4 : tie.Need-returns-4
 returns-4 c = let a = c .before .before in
     let s = a .before .before .before .before .before in
     header-low (now (s .args .f)) (s .pre) (a .before .before .before .before .if1 .left) (a .before .before .if2 .left) (a .if3 .left) (c .if4 .taken)
-
-shared-slice-read-result : tie.Need-shared-slice-read-result
-shared-slice-read-result c = search needs
 
 returns-5 : tie.Need-returns-5
 returns-5 c = let a = c .before .before .before in
@@ -47,11 +35,11 @@ is-header-spec =
     tie.close
     (tie.spec
     returns
-    shared-slice-read-if2
+    (λ c. search needs)
     returns-2
-    shared-slice-read-if3
+    (λ c. search needs)
     returns-3
-    shared-slice-read-if4
+    (λ c. search needs)
     returns-4
-    shared-slice-read-result
+    (λ c. search needs)
     returns-5)

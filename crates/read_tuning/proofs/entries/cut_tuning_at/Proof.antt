@@ -12,28 +12,13 @@ use borrow.Author.Needs.{needs}
 use Rattle.read_tuning.proofs.entries.cut_tuning_at.Statement.{statement}
 use Rattle.read_tuning.proofs.entries.cut_tuning_at.Tie as tie
 
-named-requires : tie.Need-named-requires
-named-requires c κs = search needs
-
 returns : tie.Need-returns
 returns c =
     let s = c .before .before .before in
     (c .named .ensures .0 ∙ ap tuning-entry (sym (tuning-past (now (s .args .f)) (s .args .i) (c .before .if1 .taken))), c .named .ensures .1)
 
-shared-slice-read-semitone : tie.Need-shared-slice-read-semitone
-shared-slice-read-semitone c = search needs
-
 cast-semitone : tie.Need-cast-semitone
 cast-semitone c = let s = c .before .before .before in omega (arith, c .shared-slice-known2 .given (s .args .i))
-
-add-at : tie.Need-add-at
-add-at c = search needs
-
-at-requires : tie.Need-at-requires
-at-requires c κs = search needs
-
-cast-fraction : tie.Need-cast-fraction
-cast-fraction c = search needs
 
 named-requires-2 : tie.Need-named-requires-2
 named-requires-2 c κs =
@@ -55,12 +40,12 @@ pub cut-tuning-at-spec : {M : Type 1} → statement M
 cut-tuning-at-spec =
     tie.close
     (tie.spec
-    named-requires
+    (λ c κs. search needs)
     returns
-    shared-slice-read-semitone
+    (λ c. search needs)
     cast-semitone
-    add-at
-    at-requires
-    cast-fraction
+    (λ c. search needs)
+    (λ c κs. search needs)
+    (λ c. search needs)
     named-requires-2
     returns-2)

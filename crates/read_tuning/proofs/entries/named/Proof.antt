@@ -6,12 +6,6 @@ use borrow.Author.Needs.{needs}
 use Rattle.read_tuning.proofs.entries.named.Statement.{statement}
 use Rattle.read_tuning.proofs.entries.named.Tie as tie
 
-mul-entry : tie.Need-mul-entry
-mul-entry c = search needs
-
-add-entry : tie.Need-add-entry
-add-entry c = search needs
-
 returns : tie.Need-returns
 returns c = let s = c .before in (named-none (s .args .semitone) (s .args .fraction) (s .pre .1) (c .if1 .taken), omega arith)
 
@@ -19,4 +13,4 @@ returns-2 : tie.Need-returns-2
 returns-2 c = let s = c .before in (named-other (s .args .semitone) (s .args .fraction) (s .pre .1) (c .if1 .left), omega arith)
 
 pub named-spec : {M : Type 1} → statement M
-named-spec = tie.close (tie.spec mul-entry add-entry returns returns-2)
+named-spec = tie.close (tie.spec (λ c. search needs) (λ c. search needs) returns returns-2)

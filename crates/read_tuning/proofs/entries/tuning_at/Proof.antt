@@ -11,32 +11,8 @@ use borrow.Author.Needs.{needs}
 use Rattle.read_tuning.proofs.entries.tuning_at.Statement.{statement}
 use Rattle.read_tuning.proofs.entries.tuning_at.Tie as tie
 
-cut-tuning-at-requires : tie.Need-cut-tuning-at-requires
-cut-tuning-at-requires c κs = search needs
-
-returns : tie.Need-returns
-returns c = search needs
-
-sub-if2 : tie.Need-sub-if2
-sub-if2 c = search needs
-
-cut-tuning-at-requires-2 : tie.Need-cut-tuning-at-requires-2
-cut-tuning-at-requires-2 c κs = search needs
-
-returns-2 : tie.Need-returns-2
-returns-2 c = search needs
-
-shared-slice-read-semitone : tie.Need-shared-slice-read-semitone
-shared-slice-read-semitone c = search needs
-
 cast-semitone : tie.Need-cast-semitone
 cast-semitone c = let s = c .before .before .before .before in omega (arith, c .shared-slice-known2 .given (s .args .i))
-
-add-fraction : tie.Need-add-fraction
-add-fraction c = search needs
-
-shared-slice-read-fraction : tie.Need-shared-slice-read-fraction
-shared-slice-read-fraction c = search needs
 
 cast-fraction : tie.Need-cast-fraction
 cast-fraction c =
@@ -49,12 +25,6 @@ mul-fraction c =
     let g = c .shared-slice-known3 .given in
     let i = c .before .before .before .before .before .args .i in
     omega (arith, g (i + 1), g (i + 2))
-
-add-fraction-2 : tie.Need-add-fraction-2
-add-fraction-2 c = search needs
-
-shared-slice-read-fraction-2 : tie.Need-shared-slice-read-fraction-2
-shared-slice-read-fraction-2 c = search needs
 
 cast-fraction-2 : tie.Need-cast-fraction-2
 cast-fraction-2 c =
@@ -86,19 +56,19 @@ pub tuning-at-spec : {M : Type 1} → statement M
 tuning-at-spec =
     tie.close
     (tie.spec
-    cut-tuning-at-requires
-    returns
-    sub-if2
-    cut-tuning-at-requires-2
-    returns-2
-    shared-slice-read-semitone
+    (λ c κs. search needs)
+    (λ c. search needs)
+    (λ c. search needs)
+    (λ c κs. search needs)
+    (λ c. search needs)
+    (λ c. search needs)
     cast-semitone
-    add-fraction
-    shared-slice-read-fraction
+    (λ c. search needs)
+    (λ c. search needs)
     cast-fraction
     mul-fraction
-    add-fraction-2
-    shared-slice-read-fraction-2
+    (λ c. search needs)
+    (λ c. search needs)
     cast-fraction-2
     add-fraction-3
     named-requires

@@ -23,15 +23,6 @@ two-at l i = ap (λ (v : ℕ). getD l i 0 + 128 * v) (sym (value-one (i + 1) l))
 both : (l : List ℕ) (i : ℕ) → Seven l → (getD l i 0 < 128) × (getD l (i + 1) 0 < 128)
 both l i s = (seven-get l i s, seven-get l (i + 1) s)
 
-shared-slice-read-a : tie.Need-shared-slice-read-a
-shared-slice-read-a c = search needs
-
-add-b : tie.Need-add-b
-add-b c = search needs
-
-shared-slice-read-b : tie.Need-shared-slice-read-b
-shared-slice-read-b c = search needs
-
 cast-u14-to-i : tie.Need-cast-u14-to-i
 cast-u14-to-i c = let s = c .before .before .before in omega (arith, both (now (s .args .f)) (s .args .i) (s .pre .0))
 
@@ -55,9 +46,9 @@ pub i14-at-spec : {M : Type 1} → statement M
 i14-at-spec =
     tie.close
     (tie.spec
-    shared-slice-read-a
-    add-b
-    shared-slice-read-b
+    (λ c. search needs)
+    (λ c. search needs)
+    (λ c. search needs)
     cast-u14-to-i
     cast-u14-to-i-2
     mul-u14-to-i

@@ -8,9 +8,6 @@ use borrow.Author.Needs.{needs}
 use Rattle.reading.proofs.heads.head_0b.Statement.{statement}
 use Rattle.reading.proofs.heads.head_0b.Tie as tie
 
-select-head-requires : tie.Need-select-head-requires
-select-head-requires c κs = search needs
-
 returns : tie.Need-returns
 returns c = sym (ap (λ (x : ℕ). head-0b (c .before .args .k) x) (c .match .keys1))
 
@@ -28,4 +25,4 @@ returns-5 c = let r = c .match .rest in rw (ne-eqb _ _ (r .0 .0 .0 .1), ne-eqb _
 
 pub head-0b-spec : {M : Type 1} → statement M
 head-0b-spec =
-    tie.close (tie.spec select-head-requires returns returns-2 returns-3 returns-4 returns-5)
+    tie.close (tie.spec (λ c κs. search needs) returns returns-2 returns-3 returns-4 returns-5)

@@ -8,24 +8,6 @@ use borrow.Author.Needs.{needs}
 use Rattle.reading.proofs.heads.head_at.Statement.{statement}
 use Rattle.reading.proofs.heads.head_at.Tie as tie
 
-head-05-requires : tie.Need-head-05-requires
-head-05-requires c κs = search needs
-
-head-06-requires : tie.Need-head-06-requires
-head-06-requires c κs = search needs
-
-head-07-requires : tie.Need-head-07-requires
-head-07-requires c κs = search needs
-
-head-08-requires : tie.Need-head-08-requires
-head-08-requires c κs = search needs
-
-head-09-requires : tie.Need-head-09-requires
-head-09-requires c κs = search needs
-
-head-0b-requires : tie.Need-head-0b-requires
-head-0b-requires c κs = search needs
-
 returns : tie.Need-returns
 returns c = sym (ap (λ (x : ℕ). head-at (c .before .args .k) x (c .before .args .b)) (c .match .keys1))
 
@@ -75,12 +57,12 @@ pub head-at-spec : {M : Type 1} → statement M
 head-at-spec =
     tie.close
     (tie.spec
-    head-05-requires
-    head-06-requires
-    head-07-requires
-    head-08-requires
-    head-09-requires
-    head-0b-requires
+    (λ c κs. search needs)
+    (λ c κs. search needs)
+    (λ c κs. search needs)
+    (λ c κs. search needs)
+    (λ c κs. search needs)
+    (λ c κs. search needs)
     returns
     returns-2
     returns-3

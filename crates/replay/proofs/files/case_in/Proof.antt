@@ -10,18 +10,6 @@ use borrow.Author.Needs.{needs}
 use Rattle.replay.proofs.files.case_in.Statement.{statement}
 use Rattle.replay.proofs.files.case_in.Tie as tie
 
-sub-case-at : tie.Need-sub-case-at
-sub-case-at c = search needs
-
-part-case-at-start : tie.Need-part-case-at-start
-part-case-at-start c = search needs
-
-part-case-at-end : tie.Need-part-case-at-end
-part-case-at-end c = search needs
-
-case-at-requires : tie.Need-case-at-requires
-case-at-requires c κs = search needs
-
 returns : tie.Need-returns
 returns c =
     let a = c .before .before .before .args in
@@ -31,4 +19,4 @@ returns c =
 
 pub case-in-spec : {M : Type 1} → statement M
 case-in-spec =
-    tie.close (tie.spec sub-case-at part-case-at-start part-case-at-end case-at-requires returns)
+    tie.close (tie.spec (λ c. search needs) (λ c. search needs) (λ c. search needs) (λ c κs. search needs) returns)

@@ -6,14 +6,8 @@ use Rattle.replay.proofs.Numbers.{not-nan}
 use Rattle.replay.proofs.floats.single.Statement.{statement}
 use Rattle.replay.proofs.floats.single.Tie as tie
 
-returns : tie.Need-returns
-returns c = search needs
-
 float-from-bits-result : tie.Need-float-from-bits-result
 float-from-bits-result c = not-nan binary32 (c .before .args .bits) (c .if1 .left)
 
-returns-2 : tie.Need-returns-2
-returns-2 c = search needs
-
 pub single-spec : {M : Type 1} → statement M
-single-spec = tie.close (tie.spec returns float-from-bits-result returns-2)
+single-spec = tie.close (tie.spec (λ c. search needs) float-from-bits-result (λ c. search needs))

@@ -4,24 +4,6 @@ use borrow.Author.Needs.{needs}
 use Rattle.to_numbers.proofs.file_reference.put_open_select.Statement.{statement}
 use Rattle.to_numbers.proofs.file_reference.put_open_select.Tie as tie
 
-reference-number-requires : tie.Need-reference-number-requires
-reference-number-requires c κs = search needs
-
-select-map-requires : tie.Need-select-map-requires
-select-map-requires c κs = search needs
-
-slice-aggregate-put-both : tie.Need-slice-aggregate-put-both
-slice-aggregate-put-both c = search needs
-
-slice-aggregate-put-both-2 : tie.Need-slice-aggregate-put-both-2
-slice-aggregate-put-both-2 c = search needs
-
-put-both-requires : tie.Need-put-both-requires
-put-both-requires c κs = search needs
-
-same-length : tie.Need-same-length
-same-length c = search needs
-
 returns : tie.Need-returns
 returns c = rw (← c .before .before .before .before .before .before .select-map .ensures, ← c .before .before .before .before .before .before .before .reference-number .ensures) (c .before .before .put-both .ensures)
 
@@ -29,10 +11,10 @@ pub put-open-select-spec : {M : Type 1} → statement M
 put-open-select-spec =
     tie.close
     (tie.spec
-    reference-number-requires
-    select-map-requires
-    slice-aggregate-put-both
-    slice-aggregate-put-both-2
-    put-both-requires
-    same-length
+    (λ c κs. search needs)
+    (λ c κs. search needs)
+    (λ c. search needs)
+    (λ c. search needs)
+    (λ c κs. search needs)
+    (λ c. search needs)
     returns)

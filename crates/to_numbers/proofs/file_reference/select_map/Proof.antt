@@ -4,36 +4,6 @@ use borrow.Author.Needs.{needs}
 use Rattle.to_numbers.proofs.file_reference.select_map.Statement.{statement}
 use Rattle.to_numbers.proofs.file_reference.select_map.Tie as tie
 
-enum-told : tie.Need-enum-told
-enum-told c = search needs
-
-enum-known-m : tie.Need-enum-known-m
-enum-known-m c = search needs
-
-wav-map-requires : tie.Need-wav-map-requires
-wav-map-requires c κs = search needs
-
-enum-known-m-2 : tie.Need-enum-known-m-2
-enum-known-m-2 c = search needs
-
-flag-requires : tie.Need-flag-requires
-flag-requires c κs = search needs
-
-cast-t11 : tie.Need-cast-t11
-cast-t11 c = search needs
-
-enum-known-m-3 : tie.Need-enum-known-m-3
-enum-known-m-3 c = search needs
-
-flag-requires-2 : tie.Need-flag-requires-2
-flag-requires-2 c κs = search needs
-
-cast-wav-map : tie.Need-cast-wav-map
-cast-wav-map c = search needs
-
-wav-map-requires-2 : tie.Need-wav-map-requires-2
-wav-map-requires-2 c κs = search needs
-
 returns : tie.Need-returns
 returns c = rw (c .enum-told .given .1)
 
@@ -50,16 +20,16 @@ pub select-map-spec : {M : Type 1} → statement M
 select-map-spec =
     tie.close
     (tie.spec
-    enum-told
-    enum-known-m
-    wav-map-requires
-    enum-known-m-2
-    flag-requires
-    cast-t11
-    enum-known-m-3
-    flag-requires-2
-    cast-wav-map
-    wav-map-requires-2
+    (λ c. search needs)
+    (λ c. search needs)
+    (λ c κs. search needs)
+    (λ c. search needs)
+    (λ c κs. search needs)
+    (λ c. search needs)
+    (λ c. search needs)
+    (λ c κs. search needs)
+    (λ c. search needs)
+    (λ c κs. search needs)
     returns
     returns-2
     returns-3

@@ -9,14 +9,8 @@ use Rattle.to_numbers.proofs.put.put.Tie as tie
 returns : tie.Need-returns
 returns c = record { count = refl; there = rw (lt-leb _ _ (c .if1 .taken)) }
 
-copy-requires : tie.Need-copy-requires
-copy-requires c κs = search needs
-
-same-length : tie.Need-same-length
-same-length c = search needs
-
 returns-2 : tie.Need-returns-2
 returns-2 c = record { count = refl; there = rw (le-leb _ _ (c .before .before .before .before .if1 .left)) (c .before .before .copy .ensures) }
 
 pub put-spec : {M : Type 1} → statement M
-put-spec = tie.close (tie.spec returns copy-requires same-length returns-2)
+put-spec = tie.close (tie.spec returns (λ c κs. search needs) (λ c. search needs) returns-2)

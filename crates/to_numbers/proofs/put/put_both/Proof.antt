@@ -11,35 +11,11 @@ use borrow.Author.Needs.{needs}
 use Rattle.to_numbers.proofs.put.put_both.Statement.{statement}
 use Rattle.to_numbers.proofs.put.put_both.Tie as tie
 
-add-n : tie.Need-add-n
-add-n c = search needs
-
 returns : tie.Need-returns
 returns c =
     let s = c .before .before .before .before in
     let e = length-append (now (s .args .s)) (now (s .args .t)) in
     record { count = sym e; there = rw (lt-leb _ _ (lt-as (sym e) (c .if1 .taken))) }
-
-copy-requires : tie.Need-copy-requires
-copy-requires c κs = search needs
-
-mul-copy : tie.Need-mul-copy
-mul-copy c = search needs
-
-sub-copy : tie.Need-sub-copy
-sub-copy c = search needs
-
-part-copy-start : tie.Need-part-copy-start
-part-copy-start c = search needs
-
-part-copy-end : tie.Need-part-copy-end
-part-copy-end c = search needs
-
-copy-requires-2 : tie.Need-copy-requires-2
-copy-requires-2 c κs = search needs
-
-same-length : tie.Need-same-length
-same-length c = search needs
 
 returns-2 : tie.Need-returns-2
 returns-2 c =
@@ -54,13 +30,13 @@ pub put-both-spec : {M : Type 1} → statement M
 put-both-spec =
     tie.close
     (tie.spec
-    add-n
+    (λ c. search needs)
     returns
-    copy-requires
-    mul-copy
-    sub-copy
-    part-copy-start
-    part-copy-end
-    copy-requires-2
-    same-length
+    (λ c κs. search needs)
+    (λ c. search needs)
+    (λ c. search needs)
+    (λ c. search needs)
+    (λ c. search needs)
+    (λ c κs. search needs)
+    (λ c. search needs)
     returns-2)

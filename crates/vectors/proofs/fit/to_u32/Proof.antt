@@ -5,9 +5,6 @@ use borrow.Author.Tests.{lt-ltb, le-ltb}
 use Rattle.vectors.proofs.fit.to_u32.Statement.{statement}
 use Rattle.vectors.proofs.fit.to_u32.Tie as tie
 
-cast-t4 : tie.Need-cast-t4
-cast-t4 c = search needs
-
 returns : tie.Need-returns
 returns c = rw (lt-ltb _ _ (c .if1 .taken))
 
@@ -15,4 +12,4 @@ returns-2 : tie.Need-returns-2
 returns-2 c = rw (le-ltb _ _ (c .if1 .left))
 
 pub to-u32-spec : {M : Type 1} → statement M
-to-u32-spec = tie.close (tie.spec cast-t4 returns returns-2)
+to-u32-spec = tie.close (tie.spec (λ c. search needs) returns returns-2)

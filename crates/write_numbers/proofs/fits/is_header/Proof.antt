@@ -35,52 +35,25 @@ returns-8 c = let s = c .before .before .before .before .before .before .before 
 returns-9 : tie.Need-returns-9
 returns-9 c = let s = c .before .before .before .before .before .before .before .before .before .before .before .before .before .before .before .before .before .before in rw (s .pre, c .before .before .before .before .before .before .before .before .before .before .before .before .before .before .before .before .if1 .left, device-fits _ (c .before .before .before .before .before .before .before .before .before .before .before .before .before .before .if2 .left), fits-16 _ (c .before .before .before .before .before .before .before .before .before .before .before .before .if3 .left), fits-8 _ (c .before .before .before .before .before .before .before .before .before .before .if4 .left), fits-32 _ (c .before .before .before .before .before .before .before .before .if5 .left), fits-32 _ (c .before .before .before .before .before .before .if6 .left), fits-32 _ (c .before .before .before .before .if7 .left), fits-32 _ (c .before .before .if8 .left)) (c .is-loop-type .ensures ∙ yes-no _)
 
-shared-slice-read-if2 : tie.Need-shared-slice-read-if2
-shared-slice-read-if2 c = search needs
-
-shared-slice-read-if3 : tie.Need-shared-slice-read-if3
-shared-slice-read-if3 c = search needs
-
-shared-slice-read-if4 : tie.Need-shared-slice-read-if4
-shared-slice-read-if4 c = search needs
-
-shared-slice-read-if5 : tie.Need-shared-slice-read-if5
-shared-slice-read-if5 c = search needs
-
-shared-slice-read-if6 : tie.Need-shared-slice-read-if6
-shared-slice-read-if6 c = search needs
-
-shared-slice-read-if7 : tie.Need-shared-slice-read-if7
-shared-slice-read-if7 c = search needs
-
-shared-slice-read-if8 : tie.Need-shared-slice-read-if8
-shared-slice-read-if8 c = search needs
-
-shared-slice-read-is-loop-type : tie.Need-shared-slice-read-is-loop-type
-shared-slice-read-is-loop-type c = search needs
-
-is-loop-type-requires : tie.Need-is-loop-type-requires
-is-loop-type-requires c κs = search needs
-
 pub is-header-spec : {M : Type 1} → statement M
 is-header-spec =
     tie.close
     (tie.spec
     returns
-    shared-slice-read-if2
+    (λ c. search needs)
     returns-2
-    shared-slice-read-if3
+    (λ c. search needs)
     returns-3
-    shared-slice-read-if4
+    (λ c. search needs)
     returns-4
-    shared-slice-read-if5
+    (λ c. search needs)
     returns-5
-    shared-slice-read-if6
+    (λ c. search needs)
     returns-6
-    shared-slice-read-if7
+    (λ c. search needs)
     returns-7
-    shared-slice-read-if8
+    (λ c. search needs)
     returns-8
-    shared-slice-read-is-loop-type
-    is-loop-type-requires
+    (λ c. search needs)
+    (λ c κs. search needs)
     returns-9)

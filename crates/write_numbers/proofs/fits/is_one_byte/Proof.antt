@@ -18,12 +18,6 @@ returns-2 c = let s = c .before .before .before in rw (s .pre, c .before .before
 returns-3 : tie.Need-returns-3
 returns-3 c = let s = c .before .before .before .before in rw (s .pre, c .before .before .before .if1 .left, device-fits _ (c .before .if2 .left)) (below-8 (getD (now (s .args .v)) 2 0))
 
-shared-slice-read-if2 : tie.Need-shared-slice-read-if2
-shared-slice-read-if2 c = search needs
-
-shared-slice-read-result : tie.Need-shared-slice-read-result
-shared-slice-read-result c = search needs
-
 pub is-one-byte-spec : {M : Type 1} → statement M
 is-one-byte-spec =
-    tie.close (tie.spec returns shared-slice-read-if2 returns-2 shared-slice-read-result returns-3)
+    tie.close (tie.spec returns (λ c. search needs) returns-2 (λ c. search needs) returns-3)

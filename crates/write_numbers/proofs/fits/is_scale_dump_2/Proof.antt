@@ -13,26 +13,14 @@ use Rattle.write_numbers.proofs.fits.is_scale_dump_2.Tie as tie
 returns : tie.Need-returns
 returns c = let s = c .before .before in other-length (now (s .args .v)) (row.scale-dump-2 .types) (rw (s .pre)) (c .if1 .taken)
 
-shared-slice-read-if2 : tie.Need-shared-slice-read-if2
-shared-slice-read-if2 c = search needs
-
 returns-2 : tie.Need-returns-2
 returns-2 c = let s = c .before .before .before .before in rw (s .pre, c .before .before .if1 .left, device-misfits _ (c .if2 .taken))
-
-shared-slice-read-if3 : tie.Need-shared-slice-read-if3
-shared-slice-read-if3 c = search needs
 
 returns-3 : tie.Need-returns-3
 returns-3 c = let s = c .before .before .before .before .before .before in rw (s .pre, c .before .before .before .before .if1 .left, device-fits _ (c .before .before .if2 .left), misfits-8 _ (c .if3 .taken))
 
-shared-slice-read-if4 : tie.Need-shared-slice-read-if4
-shared-slice-read-if4 c = search needs
-
 returns-4 : tie.Need-returns-4
 returns-4 c = let s = c .before .before .before .before .before .before .before .before in rw (s .pre, c .before .before .before .before .before .before .if1 .left, device-fits _ (c .before .before .before .before .if2 .left), fits-8 _ (c .before .before .if3 .left), misfits-8 _ (c .if4 .taken))
-
-are-i16-requires : tie.Need-are-i16-requires
-are-i16-requires c κs = search needs
 
 returns-5 : tie.Need-returns-5
 returns-5 c =
@@ -47,11 +35,11 @@ is-scale-dump-2-spec =
     tie.close
     (tie.spec
     returns
-    shared-slice-read-if2
+    (λ c. search needs)
     returns-2
-    shared-slice-read-if3
+    (λ c. search needs)
     returns-3
-    shared-slice-read-if4
+    (λ c. search needs)
     returns-4
-    are-i16-requires
+    (λ c κs. search needs)
     returns-5)

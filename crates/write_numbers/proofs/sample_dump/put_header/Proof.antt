@@ -40,23 +40,11 @@ r2 c = run-part (r1 (st c)) (c .put-header .last .0) (H (st c)) 19 refl (omega (
 r3 : (c : tie.After-put-header) → Run (x0 (st c)) (0xF0 ∷ H (st c) ++ (0xF7 ∷ [])) (set (x2 c) 20 0xF7) 21
 r3 c = run-set (r2 c) 0xF7 (omega (arith, st c .pre))
 
-slice-write-out : tie.Need-slice-write-out
-slice-write-out c = search needs
-
-clamp-requires : tie.Need-clamp-requires
-clamp-requires c κs = search needs
-
-loop-byte-requires : tie.Need-loop-byte-requires
-loop-byte-requires c κs = search needs
-
 sub-put-header : tie.Need-sub-put-header
 sub-put-header c = rw length-set (omega (arith, c .before .before .before .pre))
 
 part-put-header-start : tie.Need-part-put-header-start
 part-put-header-start c = rw length-set (omega (arith, c .before .before .before .pre))
-
-part-put-header-end : tie.Need-part-put-header-end
-part-put-header-end c = search needs
 
 put-header-requires : tie.Need-put-header-requires
 put-header-requires c κs =
@@ -78,12 +66,12 @@ pub put-header-spec : {M : Type 1} → statement M
 put-header-spec =
     tie.close
     (tie.spec
-    slice-write-out
-    clamp-requires
-    loop-byte-requires
+    (λ c. search needs)
+    (λ c κs. search needs)
+    (λ c κs. search needs)
     sub-put-header
     part-put-header-start
-    part-put-header-end
+    (λ c. search needs)
     put-header-requires
     slice-write-out-2
     same-length

@@ -74,17 +74,11 @@ r5 : (c : tie.After-checksum)
     → Run (x0 (s4 c)) ((0xF0 ∷ H (s4 c) ++ D (s4 c)) ++ (c .checksum .result ∷ []) ++ (0xF7 ∷ [])) (set (set (x3 (ps c)) 125 (c .checksum .result)) 126 0xF7) 127
 r5 c = run-set (r4 c) 0xF7 (omega (arith, s4 c .pre))
 
-slice-write-out : tie.Need-slice-write-out
-slice-write-out c = search needs
-
 sub-put-packet : tie.Need-sub-put-packet
 sub-put-packet c = rw length-set (omega (arith, c .before .before .pre))
 
 part-put-packet-start : tie.Need-part-put-packet-start
 part-put-packet-start c = rw length-set (omega (arith, c .before .before .pre))
-
-part-put-packet-end : tie.Need-part-put-packet-end
-part-put-packet-end c = search needs
 
 put-packet-requires : tie.Need-put-packet-requires
 put-packet-requires c κs = let s = c .before .before .before in run-room (r1 s) 4 (omega (arith, s .pre))
@@ -95,23 +89,11 @@ sub-put-samples c = let p = c .before .before in omega (arith, st p .pre, run-le
 part-put-samples-start : tie.Need-part-put-samples-start
 part-put-samples-start c = let p = c .before .before in omega (arith, st p .pre, run-length (r2 p))
 
-part-put-samples-end : tie.Need-part-put-samples-end
-part-put-samples-end c = search needs
-
 put-samples-requires : tie.Need-put-samples-requires
 put-samples-requires c κs = let p = c .before .before .before in run-room (r2 p) 120 (omega (arith, st p .pre))
 
-sub-checksum : tie.Need-sub-checksum
-sub-checksum c = search needs
-
-part-checksum-start : tie.Need-part-checksum-start
-part-checksum-start c = search needs
-
 part-checksum-end : tie.Need-part-checksum-end
 part-checksum-end c = let q = c .before .before .before in omega (arith, st (pf q) .pre, run-length (r3 q))
-
-checksum-requires : tie.Need-checksum-requires
-checksum-requires c κs = search needs
 
 slice-write-out-2 : tie.Need-slice-write-out-2
 slice-write-out-2 c = omega (arith, s4 c .pre, run-length (r3 (ps c)))
@@ -130,19 +112,19 @@ pub put-packet-spec : {M : Type 1} → statement M
 put-packet-spec =
     tie.close
     (tie.spec
-    slice-write-out
+    (λ c. search needs)
     sub-put-packet
     part-put-packet-start
-    part-put-packet-end
+    (λ c. search needs)
     put-packet-requires
     sub-put-samples
     part-put-samples-start
-    part-put-samples-end
+    (λ c. search needs)
     put-samples-requires
-    sub-checksum
-    part-checksum-start
+    (λ c. search needs)
+    (λ c. search needs)
     part-checksum-end
-    checksum-requires
+    (λ c κs. search needs)
     slice-write-out-2
     slice-write-out-3
     same-length

@@ -38,33 +38,12 @@ returns c =
     let s = c .before .before in
     rw (w s) (no-room (G s) (now (s .args .out)) (s .args .place) (room-past (length (now (s .args .out))) (s .args .place) _ (c .if1 .taken)))
 
-sub-if2 : tie.Need-sub-if2
-sub-if2 c = search needs
-
 returns-2 : tie.Need-returns-2
 returns-2 c =
     let s = c .before .before .before in
     rw (w s)
     (no-room (G s) (now (s .args .out)) (s .args .place)
     (room-short (length (now (s .args .out))) (s .args .place) _ (c .before .if1 .left) (rw (k s) (c .if2 .taken))))
-
-device-byte-requires : tie.Need-device-byte-requires
-device-byte-requires c κs = search needs
-
-sub-put-header : tie.Need-sub-put-header
-sub-put-header c = search needs
-
-part-put-header-start : tie.Need-part-put-header-start
-part-put-header-start c = search needs
-
-part-put-header-end : tie.Need-part-put-header-end
-part-put-header-end c = search needs
-
-put-header-requires : tie.Need-put-header-requires
-put-header-requires c κs = search needs
-
-same-length : tie.Need-same-length
-same-length c = search needs
 
 returns-3 : tie.Need-returns-3
 returns-3 c =
@@ -84,12 +63,12 @@ write-header-spec =
     tie.close
     (tie.spec
     returns
-    sub-if2
+    (λ c. search needs)
     returns-2
-    device-byte-requires
-    sub-put-header
-    part-put-header-start
-    part-put-header-end
-    put-header-requires
-    same-length
+    (λ c κs. search needs)
+    (λ c. search needs)
+    (λ c. search needs)
+    (λ c. search needs)
+    (λ c κs. search needs)
+    (λ c. search needs)
     returns-3)

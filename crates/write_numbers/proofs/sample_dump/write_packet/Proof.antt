@@ -42,9 +42,6 @@ returns c =
     let s = t .before in
     rw (w t) (no-room (G s) (now (s .args .out)) (s .args .place) (room-past (length (now (s .args .out))) (s .args .place) _ (c .if1 .taken)))
 
-sub-if2 : tie.Need-sub-if2
-sub-if2 c = search needs
-
 returns-2 : tie.Need-returns-2
 returns-2 c =
     let t = c .before .before .before in
@@ -52,24 +49,6 @@ returns-2 c =
     rw (w t)
     (no-room (G s) (now (s .args .out)) (s .args .place)
     (room-short (length (now (s .args .out))) (s .args .place) _ (c .before .if1 .left) (rw (k s) (c .if2 .taken))))
-
-device-byte-requires : tie.Need-device-byte-requires
-device-byte-requires c κs = search needs
-
-sub-put-packet : tie.Need-sub-put-packet
-sub-put-packet c = search needs
-
-part-put-packet-start : tie.Need-part-put-packet-start
-part-put-packet-start c = search needs
-
-part-put-packet-end : tie.Need-part-put-packet-end
-part-put-packet-end c = search needs
-
-put-packet-requires : tie.Need-put-packet-requires
-put-packet-requires c κs = search needs
-
-same-length : tie.Need-same-length
-same-length c = search needs
 
 returns-3 : tie.Need-returns-3
 returns-3 c =
@@ -90,12 +69,12 @@ write-packet-spec =
     tie.close
     (tie.spec
     returns
-    sub-if2
+    (λ c. search needs)
     returns-2
-    device-byte-requires
-    sub-put-packet
-    part-put-packet-start
-    part-put-packet-end
-    put-packet-requires
-    same-length
+    (λ c κs. search needs)
+    (λ c. search needs)
+    (λ c. search needs)
+    (λ c. search needs)
+    (λ c κs. search needs)
+    (λ c. search needs)
     returns-3)

@@ -76,17 +76,11 @@ r5 : (c : tie.After-checksum)
     → Run (x0 (s4 c)) ((0xF0 ∷ H (s4 c) ++ D (s4 c)) ++ (c .checksum .result ∷ []) ++ (0xF7 ∷ [])) (set (set (x3 (pp c)) 47 (c .checksum .result)) 48 0xF7) 49
 r5 c = run-set (r4 c) 0xF7 (omega (arith, s4 c .pre))
 
-slice-write-out : tie.Need-slice-write-out
-slice-write-out c = search needs
-
 sub-put-bank-program : tie.Need-sub-put-bank-program
 sub-put-bank-program c = rw length-set (omega (arith, c .before .before .pre))
 
 part-put-bank-program-start : tie.Need-part-put-bank-program-start
 part-put-bank-program-start c = rw length-set (omega (arith, c .before .before .pre))
-
-part-put-bank-program-end : tie.Need-part-put-bank-program-end
-part-put-bank-program-end c = search needs
 
 put-bank-program-requires : tie.Need-put-bank-program-requires
 put-bank-program-requires c κs = let s = c .before .before .before in run-room (r1 s) 6 (omega (arith, s .pre))
@@ -97,23 +91,11 @@ sub-put-scale-dump-2 c = let p = c .before .before in omega (arith, st p .pre, r
 part-put-scale-dump-2-start : tie.Need-part-put-scale-dump-2-start
 part-put-scale-dump-2-start c = let p = c .before .before in omega (arith, st p .pre, run-length (r2 p))
 
-part-put-scale-dump-2-end : tie.Need-part-put-scale-dump-2-end
-part-put-scale-dump-2-end c = search needs
-
 put-scale-dump-2-requires : tie.Need-put-scale-dump-2-requires
 put-scale-dump-2-requires c κs = let p = c .before .before .before in run-room (r2 p) 40 (omega (arith, st p .pre))
 
-sub-checksum : tie.Need-sub-checksum
-sub-checksum c = search needs
-
-part-checksum-start : tie.Need-part-checksum-start
-part-checksum-start c = search needs
-
 part-checksum-end : tie.Need-part-checksum-end
 part-checksum-end c = let p = c .before .before .before in omega (arith, st (pf p) .pre, run-length (r3 p))
-
-checksum-requires : tie.Need-checksum-requires
-checksum-requires c κs = search needs
 
 slice-write-out-2 : tie.Need-slice-write-out-2
 slice-write-out-2 c = omega (arith, s4 c .pre, run-length (r3 (pp c)))
@@ -134,19 +116,19 @@ pub put-scale-dump-2-spec : {M : Type 1} → statement M
 put-scale-dump-2-spec =
     tie.close
     (tie.spec
-    slice-write-out
+    (λ c. search needs)
     sub-put-bank-program
     part-put-bank-program-start
-    part-put-bank-program-end
+    (λ c. search needs)
     put-bank-program-requires
     sub-put-scale-dump-2
     part-put-scale-dump-2-start
-    part-put-scale-dump-2-end
+    (λ c. search needs)
     put-scale-dump-2-requires
-    sub-checksum
-    part-checksum-start
+    (λ c. search needs)
+    (λ c. search needs)
     part-checksum-end
-    checksum-requires
+    (λ c κs. search needs)
     slice-write-out-2
     slice-write-out-3
     same-length

@@ -39,9 +39,6 @@ is-given c =
     (sym (c .before .is-seven .ensures) ∙ not-false _ (c .if1 .left))
     (bytes-all (now (s .args .text)) (λ i. omega (arith, c .before .before .before .shared-slice-known .given i)))
 
-is-seven-requires : tie.Need-is-seven-requires
-is-seven-requires c κs = search needs
-
 returns : tie.Need-returns
 returns c =
     let s = st (c .before) in
@@ -55,33 +52,12 @@ returns-2 c =
     rw (is-given (c .before))
     (no-room (F s) (now (s .args .out)) (s .args .place) (room-past (length (now (s .args .out))) (s .args .place) _ (c .if2 .taken)))
 
-sub-if3 : tie.Need-sub-if3
-sub-if3 c = search needs
-
 returns-3 : tie.Need-returns-3
 returns-3 c =
     let s = st (c .before .before .before) in
     rw (is-given (c .before .before))
     (no-room (F s) (now (s .args .out)) (s .args .place)
     (room-short (length (now (s .args .out))) (s .args .place) _ (c .before .if2 .left) (rw (l s) (c .if3 .taken))))
-
-device-byte-requires : tie.Need-device-byte-requires
-device-byte-requires c κs = search needs
-
-sub-put-scale-dump-2 : tie.Need-sub-put-scale-dump-2
-sub-put-scale-dump-2 c = search needs
-
-part-put-scale-dump-2-start : tie.Need-part-put-scale-dump-2-start
-part-put-scale-dump-2-start c = search needs
-
-part-put-scale-dump-2-end : tie.Need-part-put-scale-dump-2-end
-part-put-scale-dump-2-end c = search needs
-
-put-scale-dump-2-requires : tie.Need-put-scale-dump-2-requires
-put-scale-dump-2-requires c κs = search needs
-
-same-length : tie.Need-same-length
-same-length c = search needs
 
 returns-4 : tie.Need-returns-4
 returns-4 c =
@@ -100,15 +76,15 @@ pub write-scale-dump-2-spec : {M : Type 1} → statement M
 write-scale-dump-2-spec =
     tie.close
     (tie.spec
-    is-seven-requires
+    (λ c κs. search needs)
     returns
     returns-2
-    sub-if3
+    (λ c. search needs)
     returns-3
-    device-byte-requires
-    sub-put-scale-dump-2
-    part-put-scale-dump-2-start
-    part-put-scale-dump-2-end
-    put-scale-dump-2-requires
-    same-length
+    (λ c κs. search needs)
+    (λ c. search needs)
+    (λ c. search needs)
+    (λ c. search needs)
+    (λ c κs. search needs)
+    (λ c. search needs)
     returns-4)

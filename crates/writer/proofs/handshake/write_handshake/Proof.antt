@@ -24,35 +24,17 @@ returns c =
     let s = c .before .before in
     no-room (F s) (now (s .args .out)) (s .args .place) (room-past (length (now (s .args .out))) (s .args .place) _ (c .if1 .taken))
 
-sub-if2 : tie.Need-sub-if2
-sub-if2 c = search needs
-
 returns-2 : tie.Need-returns-2
 returns-2 c =
     let s = c .before .before .before in
     no-room (F s) (now (s .args .out)) (s .args .place)
     (room-short (length (now (s .args .out))) (s .args .place) _ (c .before .if1 .left) (rw (six (device-byte (s .args .device)) (s .args .a) (s .args .n)) (c .if2 .taken)))
 
-device-byte-requires : tie.Need-device-byte-requires
-device-byte-requires c κs = search needs
-
-sub-put-handshake : tie.Need-sub-put-handshake
-sub-put-handshake c = search needs
-
-part-put-handshake-start : tie.Need-part-put-handshake-start
-part-put-handshake-start c = search needs
-
-part-put-handshake-end : tie.Need-part-put-handshake-end
-part-put-handshake-end c = search needs
-
 put-handshake-requires : tie.Need-put-handshake-requires
 put-handshake-requires c κs =
     let e = c .before .before in
     let s = e .before .before .before in
     tail-room (now (s .args .out)) (s .args .place) 6 (omega (arith, e .if2 .left, e .before .if1 .left))
-
-same-length : tie.Need-same-length
-same-length c = search needs
 
 returns-3 : tie.Need-returns-3
 returns-3 c =
@@ -74,12 +56,12 @@ write-handshake-spec =
     tie.close
     (tie.spec
     returns
-    sub-if2
+    (λ c. search needs)
     returns-2
-    device-byte-requires
-    sub-put-handshake
-    part-put-handshake-start
-    part-put-handshake-end
+    (λ c κs. search needs)
+    (λ c. search needs)
+    (λ c. search needs)
+    (λ c. search needs)
     put-handshake-requires
-    same-length
+    (λ c. search needs)
     returns-3)

@@ -4,33 +4,6 @@ use borrow.Author.Needs.{needs}
 use Rattle.writer.proofs.refusals.is_seven_type.Statement.{statement}
 use Rattle.writer.proofs.refusals.is_seven_type.Tie as tie
 
-enum-told : tie.Need-enum-told
-enum-told c = search needs
-
-enum-told-2 : tie.Need-enum-told-2
-enum-told-2 c = search needs
-
-enum-told-3 : tie.Need-enum-told-3
-enum-told-3 c = search needs
-
-enum-told-4 : tie.Need-enum-told-4
-enum-told-4 c = search needs
-
-enum-told-5 : tie.Need-enum-told-5
-enum-told-5 c = search needs
-
-enum-told-6 : tie.Need-enum-told-6
-enum-told-6 c = search needs
-
-enum-known-t : tie.Need-enum-known-t
-enum-known-t c = search needs
-
-slice-aggregate-is-seven : tie.Need-slice-aggregate-is-seven
-slice-aggregate-is-seven c = search needs
-
-is-seven-requires : tie.Need-is-seven-requires
-is-seven-requires c κs = search needs
-
 returns : tie.Need-returns
 returns c = rw (c .enum-told .given .1)
 
@@ -56,15 +29,15 @@ pub is-seven-type-spec : {M : Type 1} → statement M
 is-seven-type-spec =
     tie.close
     (tie.spec
-    enum-told
-    enum-told-2
-    enum-told-3
-    enum-told-4
-    enum-told-5
-    enum-told-6
-    enum-known-t
-    slice-aggregate-is-seven
-    is-seven-requires
+    (λ c. search needs)
+    (λ c. search needs)
+    (λ c. search needs)
+    (λ c. search needs)
+    (λ c. search needs)
+    (λ c. search needs)
+    (λ c. search needs)
+    (λ c. search needs)
+    (λ c κs. search needs)
     returns
     returns-2
     returns-3

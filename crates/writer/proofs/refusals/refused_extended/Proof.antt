@@ -4,27 +4,6 @@ use borrow.Author.Needs.{needs}
 use Rattle.writer.proofs.refusals.refused_extended.Statement.{statement}
 use Rattle.writer.proofs.refusals.refused_extended.Tie as tie
 
-enum-told : tie.Need-enum-told
-enum-told c = search needs
-
-refused-high-requires : tie.Need-refused-high-requires
-refused-high-requires c κs = search needs
-
-enum-told-2 : tie.Need-enum-told-2
-enum-told-2 c = search needs
-
-enum-known-m : tie.Need-enum-known-m
-enum-known-m c = search needs
-
-refused-rate-requires : tie.Need-refused-rate-requires
-refused-rate-requires c κs = search needs
-
-enum-told-3 : tie.Need-enum-told-3
-enum-told-3 c = search needs
-
-enum-told-4 : tie.Need-enum-told-4
-enum-told-4 c = search needs
-
 returns : tie.Need-returns
 returns c = rw (c .before .enum-told .given .1) (c .refused-high .ensures)
 
@@ -44,13 +23,13 @@ pub refused-extended-spec : {M : Type 1} → statement M
 refused-extended-spec =
     tie.close
     (tie.spec
-    enum-told
-    refused-high-requires
-    enum-told-2
-    enum-known-m
-    refused-rate-requires
-    enum-told-3
-    enum-told-4
+    (λ c. search needs)
+    (λ c κs. search needs)
+    (λ c. search needs)
+    (λ c. search needs)
+    (λ c κs. search needs)
+    (λ c. search needs)
+    (λ c. search needs)
     returns
     returns-2
     returns-3

@@ -4,24 +4,6 @@ use borrow.Author.Needs.{needs}
 use Rattle.writer.proofs.refusals.refused_file.Statement.{statement}
 use Rattle.writer.proofs.refusals.refused_file.Tie as tie
 
-enum-known-m : tie.Need-enum-known-m
-enum-known-m c = search needs
-
-refused-header-requires : tie.Need-refused-header-requires
-refused-header-requires c κs = search needs
-
-enum-told : tie.Need-enum-told
-enum-told c = search needs
-
-refused-long-requires : tie.Need-refused-long-requires
-refused-long-requires c κs = search needs
-
-enum-known-m-2 : tie.Need-enum-known-m-2
-enum-known-m-2 c = search needs
-
-refused-request-requires : tie.Need-refused-request-requires
-refused-request-requires c κs = search needs
-
 returns : tie.Need-returns
 returns c = rw (c .before .before .m .given .1) (c .refused-header .ensures)
 
@@ -35,12 +17,12 @@ pub refused-file-spec : {M : Type 1} → statement M
 refused-file-spec =
     tie.close
     (tie.spec
-    enum-known-m
-    refused-header-requires
-    enum-told
-    refused-long-requires
-    enum-known-m-2
-    refused-request-requires
+    (λ c. search needs)
+    (λ c κs. search needs)
+    (λ c. search needs)
+    (λ c κs. search needs)
+    (λ c. search needs)
+    (λ c κs. search needs)
     returns
     returns-2
     returns-3)

@@ -7,15 +7,6 @@ use Rattle.writer.proofs.Laws.Contents.{header-order}
 use Rattle.writer.proofs.refusals.refused_header.Statement.{statement}
 use Rattle.writer.proofs.refusals.refused_header.Tie as tie
 
-is-seven-type-requires : tie.Need-is-seven-type-requires
-is-seven-type-requires c κs = search needs
-
-is-seven-requires : tie.Need-is-seven-requires
-is-seven-requires c κs = search needs
-
-refused-value-requires : tie.Need-refused-value-requires
-refused-value-requires c κs = search needs
-
 returns : tie.Need-returns
 returns c =
     let h = c .before .before .before in
@@ -39,9 +30,9 @@ pub refused-header-spec : {M : Type 1} → statement M
 refused-header-spec =
     tie.close
     (tie.spec
-    is-seven-type-requires
-    is-seven-requires
-    refused-value-requires
+    (λ c κs. search needs)
+    (λ c κs. search needs)
+    (λ c κs. search needs)
     returns
     returns-2
     returns-3

@@ -5,9 +5,6 @@ use borrow.Author.Needs.{needs}
 use Rattle.writer.proofs.refusals.refused_high.Statement.{statement}
 use Rattle.writer.proofs.refusals.refused_high.Tie as tie
 
-is-seven-requires : tie.Need-is-seven-requires
-is-seven-requires c κs = search needs
-
 returns : tie.Need-returns
 returns c = rw (sym (c .before .is-seven .ensures) ∙ c .if1 .taken)
 
@@ -15,4 +12,4 @@ returns-2 : tie.Need-returns-2
 returns-2 c = rw (sym (c .before .is-seven .ensures) ∙ c .if1 .left)
 
 pub refused-high-spec : {M : Type 1} → statement M
-refused-high-spec = tie.close (tie.spec is-seven-requires returns returns-2)
+refused-high-spec = tie.close (tie.spec (λ c κs. search needs) returns returns-2)

@@ -9,12 +9,6 @@ use Rattle.writer.proofs.Laws.Contents.{high-kind}
 use Rattle.writer.proofs.refusals.refused_open.Statement.{statement}
 use Rattle.writer.proofs.refusals.refused_open.Tie as tie
 
-is-text-requires : tie.Need-is-text-requires
-is-text-requires c κs = search needs
-
-refused-map-requires : tie.Need-refused-map-requires
-refused-map-requires c κs = search needs
-
 returns : tie.Need-returns
 returns c = rw (sym (c .before .before .is-text .ensures) ∙ c .before .if1 .taken) (c .refused-map .ensures)
 
@@ -24,4 +18,4 @@ returns-2 c =
     rw (sym (c .before .is-text .ensures) ∙ c .if1 .left) (sym (ap told (high-kind (s .args .t) (any-select (s .args .map) []))))
 
 pub refused-open-spec : {M : Type 1} → statement M
-refused-open-spec = tie.close (tie.spec is-text-requires refused-map-requires returns returns-2)
+refused-open-spec = tie.close (tie.spec (λ c κs. search needs) (λ c κs. search needs) returns returns-2)

@@ -6,9 +6,6 @@ use Rattle.writer.proofs.Laws.Contents.{value-order}
 use Rattle.writer.proofs.refusals.refused_rate.Statement.{statement}
 use Rattle.writer.proofs.refusals.refused_rate.Tie as tie
 
-refused-value-requires : tie.Need-refused-value-requires
-refused-value-requires c κs = search needs
-
 returns : tie.Need-returns
 returns c = rw (lt-ltb _ _ (c .before .if1 .taken)) (c .refused-value .ensures)
 
@@ -16,4 +13,4 @@ returns-2 : tie.Need-returns-2
 returns-2 c = rw (value-order, le-ltb _ _ (c .if1 .left))
 
 pub refused-rate-spec : {M : Type 1} → statement M
-refused-rate-spec = tie.close (tie.spec refused-value-requires returns returns-2)
+refused-rate-spec = tie.close (tie.spec (λ c κs. search needs) returns returns-2)

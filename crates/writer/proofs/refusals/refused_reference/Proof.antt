@@ -8,24 +8,6 @@ use Rattle.writer.proofs.Laws.Contents.{select-none, kind-entries}
 use Rattle.writer.proofs.refusals.refused_reference.Statement.{statement}
 use Rattle.writer.proofs.refusals.refused_reference.Tie as tie
 
-enum-told : tie.Need-enum-told
-enum-told c = search needs
-
-refused-url-requires : tie.Need-refused-url-requires
-refused-url-requires c κs = search needs
-
-enum-told-2 : tie.Need-enum-told-2
-enum-told-2 c = search needs
-
-enum-known-m : tie.Need-enum-known-m
-enum-known-m c = search needs
-
-refused-open-requires : tie.Need-refused-open-requires
-refused-open-requires c κs = search needs
-
-enum-told-3 : tie.Need-enum-told-3
-enum-told-3 c = search needs
-
 returns : tie.Need-returns
 returns c = rw (c .before .enum-told .given .1) (c .refused-url .ensures)
 
@@ -44,12 +26,12 @@ pub refused-reference-spec : {M : Type 1} → statement M
 refused-reference-spec =
     tie.close
     (tie.spec
-    enum-told
-    refused-url-requires
-    enum-told-2
-    enum-known-m
-    refused-open-requires
-    enum-told-3
+    (λ c. search needs)
+    (λ c κs. search needs)
+    (λ c. search needs)
+    (λ c. search needs)
+    (λ c κs. search needs)
+    (λ c. search needs)
     returns
     returns-2
     returns-3

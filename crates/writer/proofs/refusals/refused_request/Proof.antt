@@ -6,15 +6,6 @@ use Rattle.writer.proofs.Laws.Contents.{request-order}
 use Rattle.writer.proofs.refusals.refused_request.Statement.{statement}
 use Rattle.writer.proofs.refusals.refused_request.Tie as tie
 
-is-seven-type-requires : tie.Need-is-seven-type-requires
-is-seven-type-requires c κs = search needs
-
-is-seven-requires : tie.Need-is-seven-requires
-is-seven-requires c κs = search needs
-
-refused-long-requires : tie.Need-refused-long-requires
-refused-long-requires c κs = search needs
-
 returns : tie.Need-returns
 returns c =
     let h = c .before .before in
@@ -32,9 +23,9 @@ pub refused-request-spec : {M : Type 1} → statement M
 refused-request-spec =
     tie.close
     (tie.spec
-    is-seven-type-requires
-    is-seven-requires
-    refused-long-requires
+    (λ c κs. search needs)
+    (λ c κs. search needs)
+    (λ c κs. search needs)
     returns
     returns-2
     returns-3)

@@ -5,9 +5,6 @@ use borrow.Author.Needs.{needs}
 use Rattle.writer.proofs.refusals.refused_url.Statement.{statement}
 use Rattle.writer.proofs.refusals.refused_url.Tie as tie
 
-is-text-requires : tie.Need-is-text-requires
-is-text-requires c κs = search needs
-
 returns : tie.Need-returns
 returns c = rw (sym (c .before .is-text .ensures) ∙ c .if1 .taken)
 
@@ -15,4 +12,4 @@ returns-2 : tie.Need-returns-2
 returns-2 c = rw (sym (c .before .is-text .ensures) ∙ c .if1 .left)
 
 pub refused-url-spec : {M : Type 1} → statement M
-refused-url-spec = tie.close (tie.spec is-text-requires returns returns-2)
+refused-url-spec = tie.close (tie.spec (λ c κs. search needs) returns returns-2)

@@ -7,15 +7,6 @@ use Rattle.messages.specs.Header.{with-rate}
 use Rattle.messages.proofs.sample_dump.ExtendedSampleDumpMsg.header.Statement.{statement}
 use Rattle.messages.proofs.sample_dump.ExtendedSampleDumpMsg.header.Tie as tie
 
-split-rate-requires : tie.Need-split-rate-requires
-split-rate-requires c κs = search needs
-
-enum-known-whole : tie.Need-enum-known-whole
-enum-known-whole c = search needs
-
-enum-known-refusal : tie.Need-enum-known-refusal
-enum-known-refusal c = search needs
-
 returns : tie.Need-returns
 returns c =
     let x = c .before .before .before .before .args in
@@ -30,4 +21,4 @@ returns-2 c =
 
 pub header-spec : {M : Type 1} → statement M
 header-spec =
-    tie.close (tie.spec split-rate-requires enum-known-whole enum-known-refusal returns returns-2)
+    tie.close (tie.spec (λ c κs. search needs) (λ c. search needs) (λ c. search needs) returns returns-2)

@@ -17,26 +17,17 @@ returns c =
     let l = now (c .before .before .args .m) in
     rw (lt-ltb (length l) 2 (omega arith))
 
-shared-slice-read-if2 : tie.Need-shared-slice-read-if2
-shared-slice-read-if2 c = search needs
-
 returns-2 : tie.Need-returns-2
 unfolding identityOf
 returns-2 c =
     let l = now (c .before .before .before .before .args .m) in
     rw (le-ltb (length l) 2 (omega arith), ne-eqb (getD l 0 0) 6 (λ e. omega arith))
 
-shared-slice-read-if3 : tie.Need-shared-slice-read-if3
-shared-slice-read-if3 c = search needs
-
 returns-3 : tie.Need-returns-3
 unfolding identityOf
 returns-3 c =
     let l = now (c .before .before .before .before .before .before .args .m) in
     rw (le-ltb (length l) 2 (omega arith), eq-eqb (getD l 0 0) 6 (omega arith), ne-eqb (getD l 1 0) 2 (λ e. omega arith))
-
-read-maker-requires : tie.Need-read-maker-requires
-read-maker-requires c κs = search needs
 
 returns-4 : tie.Need-returns-4
 unfolding identityOf
@@ -49,9 +40,9 @@ from-midi-spec =
     tie.close
     (tie.spec
     returns
-    shared-slice-read-if2
+    (λ c. search needs)
     returns-2
-    shared-slice-read-if3
+    (λ c. search needs)
     returns-3
-    read-maker-requires
+    (λ c κs. search needs)
     returns-4)

@@ -16,22 +16,10 @@ within : (t : MaybeTuning) → WT (the-field-laws .val (the-type .to t)) → Wit
 within NoTuning h = tt
 within (Tuned t) h = search needs
 
-cast-result : tie.Need-cast-result
-cast-result c = search needs
-
-mul-result : tie.Need-mul-result
-mul-result c = search needs
-
-to-entry-requires : tie.Need-to-entry-requires
-to-entry-requires c κs = search needs
-
 add-result : tie.Need-add-result
 add-result c =
     let t = c .before .before .args .self .tuning in
     record { fits = omega (arith, tuning-below t (within t (c .before .struct-known .given .1 .0))) }
 
-returns : tie.Need-returns
-returns c = search needs
-
 pub to-entry-spec : {M : Type 1} → statement M
-to-entry-spec = tie.close (tie.spec cast-result mul-result to-entry-requires add-result returns)
+to-entry-spec = tie.close (tie.spec (λ c. search needs) (λ c. search needs) (λ c κs. search needs) add-result (λ c. search needs))

@@ -5,12 +5,6 @@ use borrow.Author.Tests.{lt-ltb, le-ltb}
 use Rattle.messages.proofs.tuning.MaybeTuning.from_entry.Statement.{statement}
 use Rattle.messages.proofs.tuning.MaybeTuning.from_entry.Tie as tie
 
-cast-t5 : tie.Need-cast-t5
-cast-t5 c = search needs
-
-cast-t7 : tie.Need-cast-t7
-cast-t7 c = search needs
-
 returns : tie.Need-returns
 returns c = rw (lt-ltb _ _ (c .if1 .taken))
 
@@ -18,4 +12,4 @@ returns-2 : tie.Need-returns-2
 returns-2 c = rw (le-ltb _ _ (c .if1 .left))
 
 pub from-entry-spec : {M : Type 1} → statement M
-from-entry-spec = tie.close (tie.spec cast-t5 cast-t7 returns returns-2)
+from-entry-spec = tie.close (tie.spec (λ c. search needs) (λ c. search needs) returns returns-2)
