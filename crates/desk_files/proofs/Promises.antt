@@ -9,7 +9,7 @@ use Rattle.messages.proofs.Walk.{bool-cases}
 use lib.ListN.{length, drop, length-take, length-drop}
 use Rattle.walk.specs.Promises.{stretch}
 use Rattle.walk.proofs.Pieces.{piece-lists}
-use Rattle.desk_pieces.specs.Pieces.{NextPiece}
+use Rattle.desk_io.specs.Pieces.{NextPiece}
 use Rattle.desk_files.specs.Promises.{PieceExact}
 
 -- the piece is the last, or there are 1,292 bytes of it from o on

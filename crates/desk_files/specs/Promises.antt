@@ -6,7 +6,7 @@ use lib.ListN.{length}
 use Rattle.messages.specs.declared.«file_reference».Kind.{Kind}
 use Rattle.messages.specs.Walk.{Listed, frames}
 use Rattle.walk.specs.Promises.{stretch}
-use Rattle.desk_pieces.specs.Pieces.{NextPiece}
+use Rattle.desk_io.specs.Pieces.{NextPiece}
 
 -- "walked in pieces that overlap, so that no frame is lost or listed twice": of the 65,535 bytes from p on, or as many as there are, those frames
 -- that begin before the next piece are just the frames of the file that begin there

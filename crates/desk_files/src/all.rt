@@ -1,8 +1,8 @@
 // Every stretch that begins with F0: the frames, and what is none, with the reason.
 use super::frames;
 use super::list::Tally;
-use desk_pieces::pieces;
-use desk_say::put;
+use desk_io::pieces;
+use desk_print::put;
 use messages::file_reference::Kind;
 use reader::lent::Reading;
 use util::groups::at;

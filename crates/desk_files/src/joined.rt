@@ -1,7 +1,7 @@
 // The bytes of a file dump's packets, joined.
-use desk_pieces::pieces::sum;
-use desk_say::complain;
-use desk_say::complain_number;
+use desk_io::pieces::sum;
+use desk_print::complain;
+use desk_print::complain_number;
 use messages::file_dump::FileDumpMsg;
 use messages::system_exclusive::UniversalNonRealTimeMsg;
 

@@ -1,12 +1,12 @@
 // The frames of a file, a line each.
 use super::all;
 use super::frames;
-use desk_pieces::pieces;
-use desk_pieces::pieces::Piece;
-use desk_pieces::pieces::sum;
-use desk_say::complain_number;
-use desk_say::number;
-use desk_say::put;
+use desk_io::pieces;
+use desk_io::pieces::Piece;
+use desk_io::pieces::sum;
+use desk_print::complain_number;
+use desk_print::number;
+use desk_print::put;
 use messages::file_reference::Kind;
 use walk::Walked;
 ghost use Prim.Native.Nat.{_≤_};

@@ -1,13 +1,13 @@
 // One message, every field a line.
 use super::frames;
-use desk_pieces::pieces;
-use desk_say::complain;
-use desk_say::complain_number;
-use desk_say::fields::Style;
-use desk_say::number;
-use desk_say::put;
-use desk_words::lists;
-use desk_words::system;
+use desk_io::pieces;
+use desk_print::complain;
+use desk_print::complain_number;
+use desk_print::fields::Style;
+use desk_print::number;
+use desk_print::put;
+use desk_messages::lists;
+use desk_messages::system;
 use messages::file_dump::FileDumpMsg;
 use messages::file_reference::Kind;
 use messages::system_exclusive::DeviceID;
@@ -67,7 +67,7 @@ fn show_frame(frame: &[u8], offset: u64, kind: Kind) {
             places,
         } => {
             show_common(frame, device);
-            desk_words::message(Style::Lines, m, reader::part(frame, from, len), places);
+            desk_messages::message(Style::Lines, m, reader::part(frame, from, len), places);
             show_lists(m, reader::part(&data, 0, places), first(&entries, places));
         }
         Reading::Refused(r) => frames::refused(frame, offset, r),

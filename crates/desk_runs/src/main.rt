@@ -3,7 +3,7 @@
 mod split;
 
 use desk_commands::words;
-use desk_say::put;
+use desk_print::put;
 use libc::STDOUT_FILENO;
 ghost use Prim.Native.Nat.{_≤_};
 ghost use lib.ListN.{length};

@@ -1,8 +1,8 @@
 // The lines of a tuning: KEY CENTS, or KEY -.
 use super::lines;
-use desk_numbers::Number;
-use desk_numbers::cents;
-use desk_numbers::parts;
+use desk_decimals::Number;
+use desk_decimals::cents;
+use desk_decimals::parts;
 use util::groups::at;
 
 // A key that no line has named yet.
@@ -56,7 +56,7 @@ pub fn said_in(line: &[u8]) -> Said {
     let first = w.first;
     let second = w.second;
     let key = reader::part(line, first, less(w.first_end, first));
-    match desk_numbers::parse(key) {
+    match desk_decimals::parse(key) {
         Number::Is(n) => said_of(n, reader::part(line, second, less(w.second_end, second))),
         Number::Nothing => Said::NoKey,
     }

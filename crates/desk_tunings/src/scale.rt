@@ -1,8 +1,8 @@
 // Twelve values in cents, C first.
 use super::lines;
-use desk_numbers::cents;
-use desk_numbers::cents::Decimals;
-use desk_numbers::parts;
+use desk_decimals::cents;
+use desk_decimals::cents::Decimals;
+use desk_decimals::parts;
 use messages::tuning::Scale1Byte;
 use messages::tuning::Scale2Byte;
 use util::signed;

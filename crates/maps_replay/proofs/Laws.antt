@@ -3,10 +3,10 @@
 use mathlib.Core.Path.{_≡_, subst}
 use Prim.Native.Nat.{ℕ, _<_}
 use native.Mathlib.Omega.{arith}
-use Rattle.vectors.specs.Extents.{Chained, Inside, CaseIn}
-use Rattle.vectors.specs.declared.cases.Extents.{Extents}
-use Rattle.vectors.specs.declared.cases.Case.{Case}
-use Rattle.vectors.specs.declared.cases.Case.the-variants.{Whole}
+use Rattle.replay_vectors.specs.Extents.{Chained, Inside, CaseIn}
+use Rattle.replay_vectors.specs.declared.cases.Extents.{Extents}
+use Rattle.replay_vectors.specs.declared.cases.Case.{Case}
+use Rattle.replay_vectors.specs.declared.cases.Case.the-variants.{Whole}
 
 pub whole-inside : {r : Case} {e : Extents} {at n : ℕ} → r ≡ Whole e → CaseIn r at n → Chained e at × Inside e n
 whole-inside {r} {e} {at} {n} q h = subst (λ (x : Case). CaseIn x at n) q h

@@ -5,12 +5,12 @@ use messages::file_reference::FileReferenceMsg;
 use messages::file_reference::SoundFileMap;
 use messages::system_exclusive::DeviceID;
 use messages::system_exclusive::UniversalNonRealTimeMsg;
-use numbers::Made;
-use vectors::cases::Extents;
-use vectors::little;
+use numbers_to_message::Made;
+use replay_vectors::cases::Extents;
+use replay_vectors::little;
 ghost use Prim.Native.Nat.{_≤_};
 ghost use lib.ListN.{length};
-ghost use Rattle.vectors.specs.Extents.{Inside};
+ghost use Rattle.replay_vectors.specs.Extents.{Inside};
 
 // The records of entries, and default records behind them.
 fn records_of(entries: &[u64]) -> [SoundFileMap; 130] {
@@ -18,7 +18,7 @@ fn records_of(entries: &[u64]) -> [SoundFileMap; 130] {
     let mut records = [d; 130];
     let mut i = 0;
     while i < 130 {
-        records[i] = maps::map_at(entries, i);
+        records[i] = write_maps::map_at(entries, i);
         i += 1;
     }
     records
@@ -98,7 +98,7 @@ pub fn is_passed(s: &[u8], e: Extents, entries: &mut [u64], out: &mut [u8]) -> b
         return false;
     }
     let v = numbers_of(s, e);
-    let Made::Message { device, m } = numbers::from_numbers(&v[0..n]) else {
+    let Made::Message { device, m } = numbers_to_message::from_numbers(&v[0..n]) else {
         return false;
     };
     let UniversalNonRealTimeMsg::FileReference(x) = m else {

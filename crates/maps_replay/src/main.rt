@@ -3,7 +3,7 @@ mod cases;
 mod tries;
 
 use libc::STDOUT_FILENO;
-use vectors::cases::Case;
+use replay_vectors::cases::Case;
 ghost use Prim.Native.Nat.{_≤_};
 ghost use lib.ListN.{length};
 
@@ -42,7 +42,7 @@ fn replay_cases(s: &[u8], entries: &mut [u64], out: &mut [u8]) -> Tally {
     };
     let mut at = 0;
     while at < s.len() {
-        let Case::Whole(e) = vectors::cases::case_at(s, at) else {
+        let Case::Whole(e) = replay_vectors::cases::case_at(s, at) else {
             return tally.count(false);
         };
         tally = tally.count(cases::is_passed(s, e, entries, out));

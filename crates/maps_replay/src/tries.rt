@@ -37,7 +37,7 @@ fn attempt(a: Selected, text: &[u8], out: &mut [u8], place: usize) -> Written {
     let device = a.device;
     let m = a.m;
     let records = a.records;
-    maps::write_first(device, m, text, records, a.count, out, place)
+    write_maps::write_first(device, m, text, records, a.count, out, place)
 }
 
 // Whether the answer is a frame of so many bytes.

@@ -3,7 +3,7 @@ use mathlib.Core.List.{List}
 use Prim.Native.Nat.{ℕ, _+_}
 use Rattle.messages.specs.declared.«file_dump».FileType.{FileType}
 use Rattle.messages.specs.Fields.{type-of}
-use Rattle.reading.specs.Places.{value-at}
+use Rattle.read_places.specs.Places.{value-at}
 
 -- the type whose four letters stand at i
 abbrev pub type-at : List ℕ → ℕ → FileType

@@ -6,7 +6,7 @@ use messages::file_dump::FileDumpMsg;
 use messages::file_dump::FileType;
 use messages::system_exclusive::DeviceID;
 use messages::system_exclusive::UniversalNonRealTimeMsg;
-use reading::Found;
+use read_places::Found;
 ghost use mathlib.Core.Path.{_≡_};
 ghost use Prim.Native.Nat.{_≤_};
 ghost use lib.ListN.{length};
@@ -15,9 +15,9 @@ ghost use Rattle.util.specs.Splice.{front};
 ghost use Rattle.messages.specs.declared.head.Head.the-variants as head;
 ghost use Rattle.messages.specs.declared.«file_dump».FileDumpMsg.the-variants as file;
 ghost use Rattle.messages.specs.declared.«system_exclusive».UniversalNonRealTimeMsg.the-variants as msg;
-ghost use Rattle.reading.specs.Places.{data-at};
-ghost use Rattle.reading.specs.Found.{Reads};
-ghost use Rattle.reading.specs.declared.Found.the-variants as found;
+ghost use Rattle.read_places.specs.Places.{data-at};
+ghost use Rattle.read_places.specs.Found.{Reads};
+ghost use Rattle.read_places.specs.declared.Found.the-variants as found;
 
 // The most bytes of a file name, and the most data bytes of a packet.
 const MOST_NAME: usize = 1024;
@@ -36,7 +36,7 @@ pub fn header(f: &[u8]) -> Found
     if MOST_NAME < n {
         return Found::Nothing;
     }
-    let sender_device = reading::device_of(util::groups::u7_at(f, 0));
+    let sender_device = read_places::device_of(util::groups::u7_at(f, 0));
     let file_type = fields::type_at(f);
     let length = util::groups::u28_at(f, 5);
     header_of(sender_device, file_type, length, n)
@@ -71,7 +71,7 @@ pub fn request(f: &[u8]) -> Found
     if MOST_NAME < n {
         return Found::Nothing;
     }
-    let requester_device = reading::device_of(util::groups::u7_at(f, 0));
+    let requester_device = read_places::device_of(util::groups::u7_at(f, 0));
     let file_type = fields::type_at(f);
     request_of(requester_device, file_type, n)
 }
@@ -104,7 +104,7 @@ pub fn packet(f: &[u8]) -> Found
     if MOST_DATA < n {
         return Found::Nothing;
     }
-    let c = reading::wide(util::groups::at(f, 1));
+    let c = read_places::wide(util::groups::at(f, 1));
     if c != n + n / 7 {
         return Found::Nothing;
     }

@@ -4,7 +4,7 @@ ghost use Prim.Native.Nat.{_+_, _-_, _/_, _%_, _^_, _≤_, _<_};
 ghost use lib.ListN.{length};
 ghost use Rattle.util.specs.Groups.{Seven};
 ghost use Rattle.util.specs.Splice.{front};
-ghost use Rattle.reading.specs.Places.{next-k, next-tops, data-byte, data-from, none-over};
+ghost use Rattle.read_places.specs.Places.{next-k, next-tops, data-byte, data-from, none-over};
 
 // How many data bytes n packed bytes hold.
 pub fn data_size(n: usize) -> usize

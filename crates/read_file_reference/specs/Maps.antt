@@ -8,7 +8,7 @@ use Rattle.util.specs.Signed.{unbiased}
 use Rattle.messages.specs.declared.«file_reference».WAVMap.{WAVMap}
 use Rattle.messages.specs.format.Core.{Got, bad, got}
 use Rattle.messages.specs.Maps.{BankOffset}
-use Rattle.reading.specs.Places.{value-at}
+use Rattle.read_places.specs.Places.{value-at}
 use Rattle.read_file_reference.specs.declared.maps.OffsetFound.{OffsetFound}
 use Rattle.read_file_reference.specs.declared.maps.OffsetFound.the-variants.{Is, Nothing}
 

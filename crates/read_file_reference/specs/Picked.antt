@@ -7,7 +7,7 @@ use lib.ListN.{length, drop}
 use Rattle.messages.specs.format.Core.{Whole}
 use Rattle.messages.specs.Maps.{AnySelect, select-length}
 use Rattle.messages.specs.MessageOf.{any-select}
-use Rattle.reading.specs.Found.{entries-select}
+use Rattle.read_places.specs.Found.{entries-select}
 use Rattle.read_file_reference.specs.declared.maps.Picked.{Picked}
 use Rattle.read_file_reference.specs.declared.maps.Picked.the-variants.{Is, Nothing}
 

@@ -14,7 +14,7 @@ ghost use Rattle.util.specs.Groups.{Seven};
 ghost use Rattle.util.specs.Splice.{front};
 ghost use Rattle.messages.specs.Fields.{bits-of};
 ghost use Rattle.messages.specs.Maps.{offset, bank-only, wav-only};
-ghost use Rattle.reading.specs.Places.{map-at, map-entries};
+ghost use Rattle.read_places.specs.Places.{map-at, map-entries};
 ghost use Rattle.read_file_reference.specs.Maps.{wav-at, offset-got, flags-fit};
 ghost use Rattle.read_file_reference.specs.Picked.{Picks};
 
@@ -165,7 +165,7 @@ pub fn bank_map_at(f: &[u8], i: usize) -> Picked
     if length == 7 {
         return bank_offset_at(f, i);
     }
-    let n = reading::wide(at(f, i));
+    let n = read_places::wide(at(f, i));
     if length != 1 + 8 * n {
         return Picked::Nothing;
     }

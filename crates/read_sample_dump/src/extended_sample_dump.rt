@@ -6,7 +6,7 @@ use messages::sample_dump::ExtendedLoopType;
 use messages::sample_dump::ExtendedSampleDumpMsg;
 use messages::sample_dump::LoopNumber;
 use messages::system_exclusive::UniversalNonRealTimeMsg;
-use reading::Found;
+use read_places::Found;
 use util::groups::at;
 use util::groups::u7_at;
 use util::groups::u14_at;
@@ -19,7 +19,7 @@ ghost use lib.ListN.{length, getD};
 ghost use Rattle.util.specs.Groups.{Seven};
 ghost use Rattle.messages.specs.declared.head.Head.the-variants as head;
 ghost use Rattle.messages.specs.Structures.{extended-loop-code};
-ghost use Rattle.reading.specs.Found.{Reads};
+ghost use Rattle.read_places.specs.Found.{Reads};
 
 // The name of a sample.
 pub fn sample_name(f: &[u8]) -> Found

@@ -6,7 +6,7 @@ use messages::sample_dump::LoopNumber;
 use messages::sample_dump::LoopType;
 use messages::sample_dump::SampleDumpMsg;
 use messages::system_exclusive::UniversalNonRealTimeMsg;
-use reading::Found;
+use read_places::Found;
 use util::groups::at;
 use util::groups::u7_at;
 use util::groups::u14_at;
@@ -19,7 +19,7 @@ ghost use Rattle.util.specs.Groups.{Seven};
 ghost use Rattle.messages.specs.declared.head.Head.the-variants as head;
 ghost use Rattle.messages.specs.Structures.{loop-code};
 ghost use Rattle.messages.specs.Layouts.{form};
-ghost use Rattle.reading.specs.Found.{Reads, is-read};
+ghost use Rattle.read_places.specs.Found.{Reads, is-read};
 
 // A sample dump header.
 pub fn header(f: &[u8]) -> Found

@@ -23,11 +23,11 @@ use Rattle.messages.specs.Fields.{u7, zero-then, one-byte-maker, extended-maker
 use Rattle.messages.specs.Structures.{AfterMaker, after-maker, reply}
 use Rattle.messages.specs.Layouts.{Fields, form, text-at}
 use Rattle.messages.specs.Messages.{make, given, plain-answer}
-use Rattle.reading.specs.Places.{value-at}
-use Rattle.reading.specs.declared.Found.the-variants.{Is}
-use Rattle.reading.specs.Found.{data-of, entries-of, found-of, Reads}
-use Rattle.reading.proofs.Laws.Numbers.{unsigned-at, range-at}
-use Rattle.reading.proofs.Laws.Answers.{none-left}
+use Rattle.read_places.specs.Places.{value-at}
+use Rattle.read_places.specs.declared.Found.the-variants.{Is}
+use Rattle.read_places.specs.Found.{data-of, entries-of, found-of, Reads}
+use Rattle.read_places.proofs.Laws.Numbers.{unsigned-at, range-at}
+use Rattle.read_places.proofs.Laws.Answers.{none-left}
 use Rattle.read_system_exclusive.specs.Replies.{after-maker-at, one-zero}
 
 -- a message of numbers alone

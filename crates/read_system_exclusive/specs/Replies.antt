@@ -4,7 +4,7 @@ use mathlib.Core.List.{List, [], _∷_}
 use Prim.Native.Nat.{ℕ, _+_}
 use lib.Dec.{eqb}
 use Rattle.messages.specs.Structures.{AfterMaker}
-use Rattle.reading.specs.Places.{value-at}
+use Rattle.read_places.specs.Places.{value-at}
 
 -- "family, member (u14 each), four u7", from i on
 abbrev pub after-maker-at : List ℕ → ℕ → AfterMaker

@@ -4,7 +4,7 @@ use messages::system_exclusive::IdentityReply;
 use messages::system_exclusive::ManufacturerID;
 use messages::system_exclusive::SoftwareRevision;
 use messages::system_exclusive::UniversalNonRealTimeMsg;
-use reading::Found;
+use read_places::Found;
 use util::groups::u7_at;
 use util::groups::u14_at;
 ghost use mathlib.Core.Path.{_≡_};
@@ -13,7 +13,7 @@ ghost use lib.ListN.{length};
 ghost use Rattle.util.specs.Groups.{Seven};
 ghost use Rattle.messages.specs.declared.head.Head.the-variants as head;
 ghost use Rattle.messages.specs.Structures.{reply};
-ghost use Rattle.reading.specs.Found.{Reads};
+ghost use Rattle.read_places.specs.Found.{Reads};
 ghost use Rattle.read_system_exclusive.specs.Replies.{after-maker-at, one-zero};
 
 // A message of numbers alone, with no text and no list.

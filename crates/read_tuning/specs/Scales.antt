@@ -5,7 +5,7 @@ use lib.IntN.{ℤ}
 use Rattle.util.specs.Signed.{unbiased}
 use Rattle.messages.specs.declared.tuning.Scale1Byte.{Scale1Byte}
 use Rattle.messages.specs.declared.tuning.Scale2Byte.{Scale2Byte}
-use Rattle.reading.specs.Places.{value-at}
+use Rattle.read_places.specs.Places.{value-at}
 
 -- the signed value of one group at i
 abbrev pub s7-at : List ℕ → ℕ → ℤ

@@ -5,7 +5,7 @@ ghost use Prim.Native.Nat.{_+_, _^_, _<_, _≤_};
 ghost use lib.ListN.{length};
 ghost use Rattle.messages.specs.Fields.{tuning-named};
 ghost use Rattle.messages.specs.Entries.{tuning-entry, change-entry};
-ghost use Rattle.reading.specs.Places.{tuning-at, change-at};
+ghost use Rattle.read_places.specs.Places.{tuning-at, change-at};
 
 // The entry of a semitone and a fraction.
 fn named(semitone: u64, fraction: u64) -> u64

@@ -11,7 +11,7 @@ use messages::tuning::ScaleTuningDump1Byte;
 use messages::tuning::ScaleTuningDump2Byte;
 use messages::tuning::TuningBank;
 use messages::tuning::TuningNoteChange;
-use reading::Found;
+use read_places::Found;
 use util::channels;
 use util::channels::ChannelSet;
 use util::groups;
@@ -22,9 +22,9 @@ ghost use Rattle.util.specs.Groups.{Seven};
 ghost use Rattle.util.specs.Splice.{front};
 ghost use Rattle.util.specs.Channels.{channels-of};
 ghost use Rattle.messages.specs.declared.head.Head.the-variants as head;
-ghost use Rattle.reading.specs.Places.{value-at, tuning-entries, change-entries};
+ghost use Rattle.read_places.specs.Places.{value-at, tuning-entries, change-entries};
 ghost use Rattle.messages.specs.Layouts.{form};
-ghost use Rattle.reading.specs.Found.{Reads, is-read};
+ghost use Rattle.read_places.specs.Found.{Reads, is-read};
 ghost use Rattle.read_tuning.specs.Scales.{scale-1-at, scale-2-at};
 
 // 08 00: the program.

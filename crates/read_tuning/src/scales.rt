@@ -8,7 +8,7 @@ ghost use Prim.Native.Nat.{_+_, _≤_};
 ghost use lib.ListN.{length};
 ghost use Rattle.util.specs.Groups.{Seven};
 ghost use Rattle.util.specs.Signed.{unbiased};
-ghost use Rattle.reading.specs.Places.{value-at};
+ghost use Rattle.read_places.specs.Places.{value-at};
 ghost use Rattle.read_tuning.specs.Scales.{scale-1-at, scale-2-at};
 
 // The signed value of one group at i.

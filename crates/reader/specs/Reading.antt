@@ -12,7 +12,7 @@ use Rattle.messages.specs.declared.«file_dump».FileDumpMsg.{FileDumpMsg}
 use Rattle.messages.specs.declared.«file_dump».FileDumpMsg.the-variants as file
 use Rattle.messages.specs.Messages.{Message, Answer, refused, given, text, text-start, file-data, entries, places, holding}
 use Rattle.messages.specs.MessageOf.{messageOf}
-use Rattle.reading.specs.Found.{text-from}
+use Rattle.read_places.specs.Found.{text-from}
 use Rattle.reader.specs.declared.lent.Reading.{Reading}
 use Rattle.reader.specs.declared.lent.Reading.the-variants as reading
 

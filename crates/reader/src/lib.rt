@@ -7,7 +7,7 @@ use lent::Reading;
 use messages::file_reference::Kind;
 use messages::head::Head;
 use opening::Opening;
-use reading::Found;
+use read_places::Found;
 use util::refusal::Refusal;
 ghost use mathlib.Core.Path.{_≡_};
 ghost use mathlib.Core.Option.{some};
@@ -55,8 +55,8 @@ fn examine_part(frame: &[u8], h: Head, start: usize, end: usize, sum: bool) -> R
 {
     let a = 1 + start;
     let e = 1 + end;
-    let device = reading::device_of(util::groups::at(frame, 2));
-    match read_fields::fields_of(h, &frame[a..e]) {
+    let device = read_places::device_of(util::groups::at(frame, 2));
+    match read_heads::fields_of(h, &frame[a..e]) {
         Found::Is {
             m,
             from,

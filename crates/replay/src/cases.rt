@@ -7,15 +7,15 @@ use super::tries;
 use super::walks;
 use messages::system_exclusive::DeviceID;
 use messages::system_exclusive::UniversalNonRealTimeMsg;
-use numbers::Made;
-use vectors::cases::Extents;
-use vectors::fit;
-use vectors::fit::FitU32;
-use vectors::little;
+use numbers_to_message::Made;
+use replay_vectors::cases::Extents;
+use replay_vectors::fit;
+use replay_vectors::fit::FitU32;
+use replay_vectors::little;
 ghost use mathlib.Core.Path.{_≡_};
 ghost use Prim.Native.Nat.{_≤_};
 ghost use lib.ListN.{length};
-ghost use Rattle.vectors.specs.Extents.{Inside};
+ghost use Rattle.replay_vectors.specs.Extents.{Inside};
 
 // What a replay of a case finds.
 pub enum Verdict {
@@ -119,7 +119,7 @@ fn replay_write(s: &[u8], e: Extents, entries: &mut [u64], out: &mut [u8]) -> Ve
         return Verdict::Malformed;
     }
     let v = numbers_of(s, e);
-    let Made::Message { device, m } = numbers::from_numbers(&v[0..n]) else {
+    let Made::Message { device, m } = numbers_to_message::from_numbers(&v[0..n]) else {
         return Verdict::Malformed;
     };
     little::read_numbers(s, start, &mut entries[0..count]);

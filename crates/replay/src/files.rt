@@ -2,12 +2,12 @@
 use super::cases;
 use super::cases::Verdict;
 use super::print;
-use vectors::cases::Case;
-use vectors::cases::Extents;
+use replay_vectors::cases::Case;
+use replay_vectors::cases::Extents;
 ghost use mathlib.Core.Path.{_≡_};
 ghost use Prim.Native.Nat.{ℕ, _+_, _-_, _≤_, _<_};
 ghost use lib.ListN.{length, getD};
-ghost use Rattle.vectors.specs.Extents.{CaseIn, Inside};
+ghost use Rattle.replay_vectors.specs.Extents.{CaseIn, Inside};
 ghost use Rattle.replay.specs.Window.{Within};
 
 // How many failed cases of a file are named.
@@ -272,7 +272,7 @@ fn case_in(room: &[u8], len: usize, at: usize) -> Case
     requires { ⌜ len ≤ length (now room) ⌝ }
     ensures { λ r. ⌜ CaseIn r at len ⌝ }
 {
-    vectors::cases::case_at(&room[0..len], at)
+    replay_vectors::cases::case_at(&room[0..len], at)
 }
 
 // Replays a case among the bytes that are held.

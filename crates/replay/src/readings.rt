@@ -8,7 +8,7 @@ use messages::system_exclusive::IdentityReading;
 use messages::system_exclusive::IdentityReply;
 use messages::system_exclusive::UniversalNonRealTimeMsg;
 use reader::lent::Reading;
-use vectors::little;
+use replay_vectors::little;
 ghost use Prim.Native.Nat.{_+_, _*_, _≤_};
 ghost use lib.ListN.{length};
 
@@ -32,7 +32,7 @@ pub fn is_numbers(
     count: usize,
 ) -> bool {
     let mut got = [0u64; 16];
-    if to_numbers::to_numbers(device, m, &mut got) != count {
+    if numbers_of_message::to_numbers(device, m, &mut got) != count {
         return false;
     }
     is_same(&got, values)

@@ -1,6 +1,6 @@
 // Op 3: a stream is walked with an index of a pattern, and the answer and the index are held to the case.
 use messages::file_reference::Kind;
-use vectors::little;
+use replay_vectors::little;
 use walk::Walked;
 ghost use Prim.Native.Nat.{_+_, _*_, _≤_};
 ghost use lib.ListN.{length};

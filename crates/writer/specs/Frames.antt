@@ -15,9 +15,9 @@ use Rattle.messages.specs.Fields.{device-byte, high, type-bytes, most-name}
 use Rattle.messages.specs.Layouts.{summed}
 use Rattle.messages.specs.Contents.{too-large, longer}
 use Rattle.messages.specs.MessageOf.{headOf}
-use Rattle.fronts.specs.Fronts.{frontOf}
-use Rattle.fronts.specs.Sizes.{front-size}
-use Rattle.parts.specs.Parts.{partOf}
+use Rattle.write_fronts.specs.Fronts.{frontOf}
+use Rattle.write_fronts.specs.Sizes.{front-size}
+use Rattle.write_lists.specs.Parts.{partOf}
 use Rattle.writer.specs.declared.Sizes.{Sizes}
 
 -- the checksum of bytes, where there is one

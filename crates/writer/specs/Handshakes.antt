@@ -4,7 +4,7 @@ use mathlib.Core.List.{List, [], _∷_}
 use Prim.Native.Nat.{ℕ}
 use Rattle.messages.specs.declared.«system_exclusive».UniversalNonRealTimeMsg.{UniversalNonRealTimeMsg}
 use Rattle.messages.specs.declared.«system_exclusive».UniversalNonRealTimeMsg.the-variants as msg
-use Rattle.fronts.specs.Fronts.{start-1}
+use Rattle.write_fronts.specs.Fronts.{start-1}
 use Rattle.writer.specs.declared.handshake.Handshake.{Handshake}
 use Rattle.writer.specs.declared.handshake.Handshake.the-variants.{Of, Other}
 use Rattle.writer.specs.Frames.{wire}

@@ -18,9 +18,9 @@ ghost use Rattle.messages.specs.Layouts.{summed};
 ghost use Rattle.messages.specs.Messages.{given, writeOf};
 ghost use Rattle.messages.specs.Contents.{contents};
 ghost use Rattle.messages.specs.MessageOf.{headOf, fieldsOf, messageOf, head-sample, head-file};
-ghost use Rattle.fronts.specs.Fronts.{frontOf};
-ghost use Rattle.fronts.specs.Sizes.{front-size};
-ghost use Rattle.parts.specs.Parts.{partOf};
+ghost use Rattle.write_fronts.specs.Fronts.{frontOf};
+ghost use Rattle.write_fronts.specs.Sizes.{front-size};
+ghost use Rattle.write_lists.specs.Parts.{partOf};
 ghost use Rattle.writer.specs.Write.{written-at, output-after, length-at};
 ghost use Rattle.writer.specs.Frames.{sum-of, wire, frame-of, SizesOf};
 
@@ -133,9 +133,9 @@ fn put_frame(
     ensures { λ _. ⌜ now (out .exit) ≡ front (wire sum (frontOf d m (length (now (text .entry))) (length (now (entries .entry))) ++ partOf m (now (text .entry)) (now (entries .entry)))) (now (out .entry)) ⌝ }
 {
     out[0] = 0xF0;
-    fronts::put_front(&mut out[1..], d, m, text.len(), entries.len());
+    write_fronts::put_front(&mut out[1..], d, m, text.len(), entries.len());
     let a = 1 + size;
-    parts::part::put_part(&mut out[a..], m, text, entries);
+    write_lists::part::put_part(&mut out[a..], m, text, entries);
     let e = a + part;
     let z = e + put_sum(out, sum, e);
     out[z] = 0xF7;
@@ -153,9 +153,9 @@ fn sizes_of(m: UniversalNonRealTimeMsg, text: &[u8], entries: &[u64]) -> Sizes
     requires { ⌜ contents (headOf m) (fieldsOf m (now text) (now entries)) ≡ none ⌝ }
     ensures { λ r. ⌜ SizesOf r m (now (text .entry)) (now (entries .entry)) ⌝ }
 {
-    let part = parts::size::part_size(m, text.len(), entries.len());
+    let part = write_lists::size::part_size(m, text.len(), entries.len());
     let sum = has_sum(m);
-    let front = fronts::front_size(m);
+    let front = write_fronts::front_size(m);
     Sizes { front, part, sum }
 }
 
@@ -195,7 +195,7 @@ fn put_admitted(
         × (length (frame-of device m (now text) (now entries)) ≤ length (now out)) ⌝ }
     ensures { λ _. ⌜ now (out .exit) ≡ front (frame-of device m (now (text .entry)) (now (entries .entry))) (now (out .entry)) ⌝ }
 {
-    let d = fronts::values::device_byte(device);
+    let d = write_fronts::values::device_byte(device);
     put_frame(out, d, m, text, entries, s.front, s.part, s.sum);
 }
 

@@ -24,11 +24,11 @@ use Rattle.messages.specs.Layouts.{form, Fields}
 use Rattle.messages.specs.Records.{file-packet}
 use Rattle.messages.specs.Messages.{plain-answer}
 use Rattle.messages.specs.format.Packed.{counted-as, count-byte}
-use Rattle.reading.specs.Places.{value-at, data-at, none-over}
-use Rattle.reading.specs.declared.Found.{Found}
-use Rattle.reading.specs.declared.Found.the-variants.{Is}
-use Rattle.reading.specs.Found.{Reads}
-use Rattle.reading.proofs.Laws.Numbers.{unsigned-at}
+use Rattle.read_places.specs.Places.{value-at, data-at, none-over}
+use Rattle.read_places.specs.declared.Found.{Found}
+use Rattle.read_places.specs.declared.Found.the-variants.{Is}
+use Rattle.read_places.specs.Found.{Reads}
+use Rattle.read_places.proofs.Laws.Numbers.{unsigned-at}
 use Rattle.read_file_dump.specs.Places.{type-at}
 use Rattle.read_file_dump.proofs.Laws.Packed.{unpack-none-over, data-length}
 

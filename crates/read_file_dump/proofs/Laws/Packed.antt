@@ -17,8 +17,8 @@ use Rattle.util.specs.Options.{only-if, map-option}
 use Rattle.util.specs.Packing.{unpack}
 use Rattle.util.specs.Pick.{pick}
 use Rattle.util.proofs.Laws.Groups.{seven-drop}
-use Rattle.reading.specs.Places.{data-from, none-over}
-use Rattle.reading.proofs.Laws.Numbers.{seven-get}
+use Rattle.read_places.specs.Places.{data-from, none-over}
+use Rattle.read_places.proofs.Laws.Numbers.{seven-get}
 
 map-only : {A B : Type 0} (g : A → B) (t : Bool) (a : A) → map-option g (only-if t (some a)) ≡ only-if t (some (g a))
 map-only g true a = refl

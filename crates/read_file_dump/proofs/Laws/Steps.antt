@@ -9,7 +9,7 @@ use native.Mathlib.Omega.{arith}
 use lib.ListN.{length, drop, getD, drop-of-length-le}
 use lib.Pow.{pow-pos}
 use lib.Seq.{drop-cons}
-use Rattle.reading.specs.Places.{next-k, next-tops, data-byte, data-from}
+use Rattle.read_places.specs.Places.{next-k, next-tops, data-byte, data-from}
 
 pub power-table : (k : ℕ) → k ≤ 6 → getD (1 ∷ 2 ∷ 4 ∷ 8 ∷ 16 ∷ 32 ∷ 64 ∷ []) k 0 ≡ 2 ^ k
 power-table zero h = refl

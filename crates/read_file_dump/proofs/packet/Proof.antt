@@ -9,8 +9,8 @@ use borrow.Author.Needs.{needs}
 use Rattle.util.proofs.Laws.Splice.{tail-drop}
 use Rattle.util.proofs.Laws.Groups.{seven-drop}
 use Rattle.messages.specs.declared.head.Head.the-variants as head
-use Rattle.reading.proofs.Laws.Answers.{reads-none}
-use Rattle.reading.specs.Places.{data-at, none-over}
+use Rattle.read_places.proofs.Laws.Answers.{reads-none}
+use Rattle.read_places.specs.Places.{data-at, none-over}
 use Rattle.read_file_dump.proofs.Laws.Fields.{packet-short, packet-long, packet-count, packet-over, packet-size, packet-found}
 use Rattle.read_file_dump.proofs.packet.Statement.{statement}
 use Rattle.read_file_dump.proofs.packet.Tie as tie

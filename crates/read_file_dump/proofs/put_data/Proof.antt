@@ -11,7 +11,7 @@ use borrow.Author.Needs.{needs}
 use Rattle.util.proofs.Laws.Splice.{item-turn, part-put, tail-drop, tail-room}
 use Rattle.util.proofs.Laws.Groups.{seven-take, seven-drop}
 use Rattle.util.specs.Splice.{splice}
-use Rattle.reading.specs.Places.{data-from, data-at}
+use Rattle.read_places.specs.Places.{data-from, data-at}
 use Rattle.read_file_dump.proofs.Laws.Packed.{group-size, group-length, group-turn}
 use Rattle.read_file_dump.proofs.put_data.Statement.{statement}
 use Rattle.read_file_dump.proofs.put_data.Tie as tie

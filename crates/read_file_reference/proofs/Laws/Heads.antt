@@ -20,11 +20,11 @@ use Rattle.messages.specs.format.Tags.{look}
 use Rattle.messages.specs.Maps.{reference-types, reference-code, reference-size}
 use Rattle.messages.specs.Layouts.{form}
 use Rattle.messages.specs.Messages.{plain-answer}
-use Rattle.reading.specs.Places.{value-at}
-use Rattle.reading.specs.Found.{Reads}
-use Rattle.reading.specs.declared.Found.the-variants.{Is}
-use Rattle.reading.proofs.Laws.Numbers.{unsigned-at}
-use Rattle.reading.proofs.Laws.Answers.{none-left}
+use Rattle.read_places.specs.Places.{value-at}
+use Rattle.read_places.specs.Found.{Reads}
+use Rattle.read_places.specs.declared.Found.the-variants.{Is}
+use Rattle.read_places.proofs.Laws.Numbers.{unsigned-at}
+use Rattle.read_places.proofs.Laws.Answers.{none-left}
 use Rattle.read_file_reference.specs.Texts.{first-zero}
 use Rattle.read_file_reference.proofs.Laws.Texts.{url-none, url-long, url-at, url-length}
 

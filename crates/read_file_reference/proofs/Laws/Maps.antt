@@ -21,8 +21,8 @@ use Rattle.messages.specs.Fields.{is-set, bits-of}
 use Rattle.messages.specs.Entries.{map-entry, map-of}
 use Rattle.messages.specs.Maps.{sound-file-map, wav-map, offset}
 use Rattle.messages.proofs.Entries.{map-back}
-use Rattle.reading.specs.Places.{value-at, map-at, map-entries}
-use Rattle.reading.proofs.Laws.Numbers.{unsigned-at, range-at, value-get, value-lt}
+use Rattle.read_places.specs.Places.{value-at, map-at, map-entries}
+use Rattle.read_places.proofs.Laws.Numbers.{unsigned-at, range-at, value-get, value-lt}
 use Rattle.read_file_reference.specs.Maps.{wav-at, flags-fit}
 
 -- a byte above the range

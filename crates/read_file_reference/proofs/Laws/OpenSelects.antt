@@ -19,10 +19,10 @@ use Rattle.messages.specs.format.Tags.{look}
 use Rattle.messages.specs.Maps.{AnySelect, reference-types, reference-code, reference-size, select-for, select-length}
 use Rattle.messages.specs.Layouts.{form}
 use Rattle.messages.specs.Messages.{plain-answer}
-use Rattle.reading.specs.Places.{value-at}
-use Rattle.reading.specs.Found.{Reads}
-use Rattle.reading.specs.declared.Found.the-variants as found
-use Rattle.reading.proofs.Laws.Numbers.{unsigned-at}
+use Rattle.read_places.specs.Places.{value-at}
+use Rattle.read_places.specs.Found.{Reads}
+use Rattle.read_places.specs.declared.Found.the-variants as found
+use Rattle.read_places.proofs.Laws.Numbers.{unsigned-at}
 use Rattle.read_file_reference.specs.Texts.{first-zero}
 use Rattle.read_file_reference.specs.Picked.{Picks}
 use Rattle.read_file_reference.specs.declared.maps.Picked.the-variants.{Is, Nothing}

@@ -19,10 +19,10 @@ use Rattle.messages.specs.format.Lists.{counted, all-bytes}
 use Rattle.messages.specs.format.Tests.{other-length}
 use Rattle.messages.specs.Entries.{map-entry, map-of}
 use Rattle.messages.specs.Maps.{BankOffset, AnySelect, bankSelect, wavSelect, mapList, mapOffset, wavMap, wavMapOffset, sound-file-map, wav-map, offset, bank-only, wav-only, maps-size}
-use Rattle.reading.specs.Places.{map-at, map-entries}
-use Rattle.reading.proofs.Laws.Numbers.{seven-get}
-use Rattle.reading.proofs.Laws.Answers.{none-left}
-use Rattle.reading.proofs.Laws.Lists.{entries-length}
+use Rattle.read_places.specs.Places.{map-at, map-entries}
+use Rattle.read_places.proofs.Laws.Numbers.{seven-get}
+use Rattle.read_places.proofs.Laws.Answers.{none-left}
+use Rattle.read_places.proofs.Laws.Lists.{entries-length}
 use Rattle.read_file_reference.specs.Maps.{wav-at, flags-fit}
 use Rattle.read_file_reference.specs.Picked.{Picks}
 use Rattle.read_file_reference.specs.declared.maps.Picked.the-variants.{Is, Nothing}

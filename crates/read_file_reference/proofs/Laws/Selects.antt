@@ -29,10 +29,10 @@ use Rattle.messages.specs.Maps as maps
 use Rattle.messages.specs.Layouts.{form}
 use Rattle.messages.specs.Messages.{make, given, plain-answer}
 use Rattle.messages.specs.MessageOf.{head-select, fields-select, any-select}
-use Rattle.reading.specs.Places.{value-at}
-use Rattle.reading.specs.Found.{entries-select, Reads}
-use Rattle.reading.specs.declared.Found.the-variants as found
-use Rattle.reading.proofs.Laws.Numbers.{unsigned-at}
+use Rattle.read_places.specs.Places.{value-at}
+use Rattle.read_places.specs.Found.{entries-select, Reads}
+use Rattle.read_places.specs.declared.Found.the-variants as found
+use Rattle.read_places.proofs.Laws.Numbers.{unsigned-at}
 use Rattle.read_file_reference.specs.Picked.{Picks}
 use Rattle.read_file_reference.specs.declared.maps.Picked.the-variants.{Is, Nothing}
 

@@ -6,7 +6,7 @@ use native.Mathlib.Omega.{arith}
 use denote.Ref.{now}
 use Rattle.messages.specs.declared.head.Head.the-variants as head
 use Rattle.messages.specs.Messages.{plain-answer}
-use Rattle.reading.proofs.Laws.Answers.{reads-none}
+use Rattle.read_places.proofs.Laws.Answers.{reads-none}
 use Rattle.read_file_reference.proofs.Laws.Heads.{close-size, close-not, close-reads}
 use Rattle.read_file_reference.proofs.close.Statement.{statement}
 use Rattle.read_file_reference.proofs.close.Tie as tie

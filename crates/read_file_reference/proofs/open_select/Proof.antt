@@ -6,7 +6,7 @@ use native.Mathlib.Omega.{arith}
 use denote.Ref.{now}
 use lib.ListN.{drop}
 use Rattle.messages.specs.declared.head.Head.the-variants as head
-use Rattle.reading.proofs.Laws.Answers.{reads-none}
+use Rattle.read_places.proofs.Laws.Answers.{reads-none}
 use Rattle.read_file_reference.specs.Texts.{type-got}
 use Rattle.read_file_reference.specs.declared.texts.TypeFound.{TypeFound}
 use Rattle.read_file_reference.proofs.Laws.OpenSelects.{both-short, both-type}

@@ -5,7 +5,7 @@ use Prim.Native.Nat.{_-_}
 use native.Mathlib.Omega.{arith}
 use denote.Ref.{now}
 use Rattle.messages.specs.declared.head.Head.the-variants as head
-use Rattle.reading.proofs.Laws.Answers.{reads-none}
+use Rattle.read_places.proofs.Laws.Answers.{reads-none}
 use Rattle.read_file_reference.proofs.Laws.Heads.{open-endless, open-long, open-more, open-said, open-found}
 use Rattle.read_file_reference.proofs.open_typed.Statement.{statement}
 use Rattle.read_file_reference.proofs.open_typed.Tie as tie

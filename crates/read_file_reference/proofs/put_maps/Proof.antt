@@ -8,7 +8,7 @@ use native.Mathlib.Nat.{add-zero}
 use denote.Ref.{now}
 use Rattle.util.specs.Splice.{front}
 use Rattle.util.proofs.Laws.Splice.{tail-drop}
-use Rattle.reading.specs.Places.{map-entries}
+use Rattle.read_places.specs.Places.{map-entries}
 use Rattle.read_file_reference.proofs.Laws.Maps.{entries-part}
 use Rattle.read_file_reference.proofs.put_maps.Statement.{statement}
 use Rattle.read_file_reference.proofs.put_maps.Tie as tie

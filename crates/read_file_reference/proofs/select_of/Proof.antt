@@ -5,7 +5,7 @@ use mathlib.Core.Path.{sym, subst, _∙_}
 use denote.Ref.{now}
 use Rattle.messages.specs.declared.head.Head.the-variants as head
 use Rattle.messages.specs.Maps.{bank-only, wav-only}
-use Rattle.reading.proofs.Laws.Answers.{reads-none}
+use Rattle.read_places.proofs.Laws.Answers.{reads-none}
 use Rattle.read_file_reference.specs.Picked.{Picks}
 use Rattle.read_file_reference.specs.declared.maps.Picked.{Picked}
 use Rattle.read_file_reference.proofs.Laws.Selects.{bank-nothing, bank-unsaid, bank-found, wav-nothing, wav-unsaid, wav-found}

@@ -19,10 +19,10 @@ use Rattle.messages.specs.format.Tests.{other-length}
 use Rattle.messages.specs.Fields.{u7}
 use Rattle.messages.specs.Structures.{extended-loop-code}
 use Rattle.messages.specs.Layouts.{form}
-use Rattle.reading.specs.Places.{value-at}
-use Rattle.reading.proofs.Laws.Numbers.{unsigned-at, range-at, seven-get}
-use Rattle.reading.proofs.Laws.Lists.{bytes-at, bytes-length}
-use Rattle.reading.proofs.Laws.Answers.{none-left}
+use Rattle.read_places.specs.Places.{value-at}
+use Rattle.read_places.proofs.Laws.Numbers.{unsigned-at, range-at, seven-get}
+use Rattle.read_places.proofs.Laws.Lists.{bytes-at, bytes-length}
+use Rattle.read_places.proofs.Laws.Answers.{none-left}
 use Rattle.read_sample_dump.specs.Loops.{loop-number-of}
 use Rattle.read_sample_dump.proofs.Laws.Loops.{extended-loop-type-at, extended-one-byte, loop-number-at}
 

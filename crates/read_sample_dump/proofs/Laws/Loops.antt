@@ -13,8 +13,8 @@ use Rattle.messages.specs.declared.«sample_dump».LoopNumber.{LoopNumber}
 use Rattle.messages.specs.format.Core.{got}
 use Rattle.messages.specs.Fields.{loop-value, loop-number}
 use Rattle.messages.specs.Structures.{loop-code, loop-type, extended-loop-code, extended-loop-type}
-use Rattle.reading.specs.Places.{value-at}
-use Rattle.reading.proofs.Laws.Numbers.{unsigned-at}
+use Rattle.read_places.specs.Places.{value-at}
+use Rattle.read_places.proofs.Laws.Numbers.{unsigned-at}
 use Rattle.read_sample_dump.specs.Loops.{loop-number-of}
 use Rattle.read_sample_dump.proofs.Laws.Bytes.{byte-at}
 

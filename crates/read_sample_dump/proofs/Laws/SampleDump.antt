@@ -21,11 +21,11 @@ use Rattle.messages.specs.format.Tests.{other-length}
 use Rattle.messages.specs.Fields.{u7}
 use Rattle.messages.specs.Structures.{loop-code}
 use Rattle.messages.specs.Layouts.{form}
-use Rattle.reading.specs.Places.{value-at}
-use Rattle.reading.specs.Found.{is-read}
-use Rattle.reading.proofs.Laws.Numbers.{unsigned-at, range-at}
-use Rattle.reading.proofs.Laws.Lists.{bytes-at, bytes-length}
-use Rattle.reading.proofs.Laws.Answers.{none-left, read-if}
+use Rattle.read_places.specs.Places.{value-at}
+use Rattle.read_places.specs.Found.{is-read}
+use Rattle.read_places.proofs.Laws.Numbers.{unsigned-at, range-at}
+use Rattle.read_places.proofs.Laws.Lists.{bytes-at, bytes-length}
+use Rattle.read_places.proofs.Laws.Answers.{none-left, read-if}
 use Rattle.read_sample_dump.specs.Loops.{loop-number-of}
 use Rattle.read_sample_dump.proofs.Laws.Bytes.{first-same}
 use Rattle.read_sample_dump.proofs.Laws.Loops.{loop-type-at, one-byte, loop-number-at}

@@ -4,7 +4,7 @@ use mathlib.Core.Path.{refl, sym, _∙_}
 use denote.Ref.{now}
 use Rattle.messages.specs.declared.«system_exclusive».UniversalNonRealTimeMsg.the-variants as msg
 use Rattle.messages.specs.declared.head.Head.the-variants as head
-use Rattle.reading.proofs.Laws.Answers.{reads-none}
+use Rattle.read_places.proofs.Laws.Answers.{reads-none}
 use Rattle.read_system_exclusive.proofs.Laws.{reads-numbers, zero-reads, zero-not}
 use borrow.Author.Needs.{needs}
 use Rattle.read_system_exclusive.proofs.eof.Statement.{statement}

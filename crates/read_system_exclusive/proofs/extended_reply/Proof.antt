@@ -6,8 +6,8 @@ use denote.Ref.{now}
 use Rattle.messages.specs.declared.«system_exclusive».UniversalNonRealTimeMsg.the-variants as msg
 use Rattle.messages.specs.declared.«system_exclusive».ManufacturerID.the-variants.{Extended}
 use Rattle.messages.specs.declared.head.Head.the-variants as head
-use Rattle.reading.proofs.Laws.Answers.{reads-none}
-use Rattle.reading.specs.Places.{value-at}
+use Rattle.read_places.proofs.Laws.Answers.{reads-none}
+use Rattle.read_places.specs.Places.{value-at}
 use Rattle.messages.specs.Structures.{reply}
 use Rattle.read_system_exclusive.specs.Replies.{after-maker-at}
 use Rattle.read_system_exclusive.proofs.Laws.{reads-numbers, extended-reads, one-byte-size, extended-maker-not, reply-not}

@@ -2,7 +2,7 @@
 -- Assumes nothing.
 use denote.Ref.{now}
 use Rattle.messages.specs.declared.head.Head.the-variants as head
-use Rattle.reading.proofs.Laws.Answers.{reads-none}
+use Rattle.read_places.proofs.Laws.Answers.{reads-none}
 use Rattle.read_system_exclusive.proofs.Laws.{one-byte-size, extended-size, reply-not}
 use borrow.Author.Needs.{needs}
 use Rattle.read_system_exclusive.proofs.identity_reply.Statement.{statement}

@@ -7,7 +7,7 @@ use denote.Ref.{now}
 use Rattle.messages.specs.declared.«system_exclusive».UniversalNonRealTimeMsg.the-variants as msg
 use Rattle.messages.specs.declared.«system_exclusive».ManufacturerID.the-variants.{OneByte}
 use Rattle.messages.specs.declared.head.Head.the-variants as head
-use Rattle.reading.proofs.Laws.Answers.{reads-none}
+use Rattle.read_places.proofs.Laws.Answers.{reads-none}
 use Rattle.messages.specs.Structures.{reply}
 use Rattle.read_system_exclusive.specs.Replies.{after-maker-at}
 use Rattle.read_system_exclusive.proofs.Laws.{reads-numbers, one-byte-reads, one-byte-maker-not, extended-size, reply-not}

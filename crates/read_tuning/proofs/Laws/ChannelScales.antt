@@ -20,9 +20,9 @@ use Rattle.util.proofs.Laws.Options.{not-some}
 use Rattle.messages.specs.declared.head.Head.the-variants as head
 use Rattle.messages.specs.format.Tests.{other-length}
 use Rattle.messages.specs.Layouts.{form}
-use Rattle.reading.specs.Places.{value-at}
-use Rattle.reading.proofs.Laws.Numbers.{high-below-at}
-use Rattle.reading.proofs.Laws.Answers.{none-left}
+use Rattle.read_places.specs.Places.{value-at}
+use Rattle.read_places.proofs.Laws.Numbers.{high-below-at}
+use Rattle.read_places.proofs.Laws.Answers.{none-left}
 use Rattle.read_tuning.specs.Scales.{scale-1-at, scale-2-at}
 use Rattle.read_tuning.proofs.Laws.Scales.{scale-1-reads, scale-2-reads}
 

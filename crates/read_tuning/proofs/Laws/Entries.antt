@@ -20,8 +20,8 @@ use Rattle.messages.specs.Fields.{tuning, tuning-named, tuned, is-none}
 use Rattle.messages.specs.Structures.{key-tuning}
 use Rattle.messages.specs.Entries.{tuning-entry, tuning-of, change-entry, change-of}
 use Rattle.messages.proofs.Entries.{Within, tuning-back, change-back}
-use Rattle.reading.specs.Places.{value-at, tuning-at, change-at}
-use Rattle.reading.proofs.Laws.Numbers.{unsigned-at, high-at, value-lt, value-high-lt, value-get}
+use Rattle.read_places.specs.Places.{value-at, tuning-at, change-at}
+use Rattle.read_places.proofs.Laws.Numbers.{unsigned-at, high-at, value-lt, value-high-lt, value-get}
 
 -- ---- the entry that the code computes
 

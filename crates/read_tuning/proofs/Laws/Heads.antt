@@ -20,10 +20,10 @@ use Rattle.messages.specs.Fields.{u7, tuning}
 use Rattle.messages.specs.Structures.{key-tuning, scale-1, scale-2}
 use Rattle.messages.specs.Entries.{tuning-entry, tuning-of, change-entry, change-of}
 use Rattle.messages.specs.Layouts.{form}
-use Rattle.reading.specs.Places.{value-at, tuning-at, change-at, tuning-entries, change-entries}
-use Rattle.reading.proofs.Laws.Numbers.{unsigned-at, seven-get, value-get}
-use Rattle.reading.proofs.Laws.Lists.{bytes-at, bytes-length, items-at}
-use Rattle.reading.proofs.Laws.Answers.{none-left}
+use Rattle.read_places.specs.Places.{value-at, tuning-at, change-at, tuning-entries, change-entries}
+use Rattle.read_places.proofs.Laws.Numbers.{unsigned-at, seven-get, value-get}
+use Rattle.read_places.proofs.Laws.Lists.{bytes-at, bytes-length, items-at}
+use Rattle.read_places.proofs.Laws.Answers.{none-left}
 use Rattle.read_tuning.specs.Scales.{scale-1-at, scale-2-at}
 use Rattle.read_tuning.proofs.Laws.Entries.{tuning-reads, change-reads}
 use Rattle.read_tuning.proofs.Laws.Scales.{scale-1-reads, scale-2-reads}

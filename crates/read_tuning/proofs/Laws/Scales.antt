@@ -14,7 +14,7 @@ use Rattle.util.specs.Groups.{Seven}
 use Rattle.messages.specs.format.Core.{got}
 use Rattle.messages.specs.Fields.{s7, s14}
 use Rattle.messages.specs.Structures.{scale-1, scale-2}
-use Rattle.reading.proofs.Laws.Numbers.{unsigned-at}
+use Rattle.read_places.proofs.Laws.Numbers.{unsigned-at}
 use Rattle.read_tuning.specs.Scales.{s7-at, s14-at, scale-1-at, scale-2-at}
 
 -- ---- a signed number that fits, read back from its bits

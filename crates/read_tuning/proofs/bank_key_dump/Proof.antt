@@ -5,7 +5,7 @@ use native.Mathlib.Omega.{arith}
 use denote.Ref.{now}
 use Rattle.messages.specs.declared.head.Head.the-variants as head
 use Rattle.messages.specs.Messages.{plain-answer}
-use Rattle.reading.proofs.Laws.Answers.{reads-none}
+use Rattle.read_places.proofs.Laws.Answers.{reads-none}
 use Rattle.read_tuning.proofs.Laws.Heads.{bank-keys-size, bank-keys-read}
 use borrow.Author.Needs.{needs}
 use Rattle.read_tuning.proofs.bank_key_dump.Statement.{statement}

@@ -5,7 +5,7 @@ use native.Mathlib.Omega.{arith}
 use denote.Ref.{now}
 use Rattle.messages.specs.declared.head.Head.the-variants as head
 use Rattle.messages.specs.Messages.{plain-answer}
-use Rattle.reading.proofs.Laws.Answers.{reads-none}
+use Rattle.read_places.proofs.Laws.Answers.{reads-none}
 use Rattle.read_tuning.proofs.Laws.Heads.{bulk-size, bulk-reads}
 use borrow.Author.Needs.{needs}
 use Rattle.read_tuning.proofs.bulk_request.Statement.{statement}

@@ -3,7 +3,7 @@
 use Prim.Native.Nat.{_<_}
 use native.Mathlib.Omega.{arith}
 use denote.Ref.{now}
-use Rattle.reading.proofs.Laws.Numbers.{value-get, seven-get}
+use Rattle.read_places.proofs.Laws.Numbers.{value-get, seven-get}
 use borrow.Author.Needs.{needs}
 use Rattle.read_tuning.proofs.channels_at.Statement.{statement}
 use Rattle.read_tuning.proofs.channels_at.Tie as tie

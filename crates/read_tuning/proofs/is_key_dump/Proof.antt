@@ -4,7 +4,7 @@ use lib.ListN.{length}
 use denote.Ref.{now}
 use Rattle.messages.specs.declared.head.Head.the-variants as head
 use Rattle.messages.specs.Layouts.{form}
-use Rattle.reading.proofs.Laws.Answers.{read-if}
+use Rattle.read_places.proofs.Laws.Answers.{read-if}
 use Rattle.read_tuning.proofs.Laws.Heads.{keys-size, keys-read}
 use Rattle.read_tuning.proofs.is_key_dump.Statement.{statement}
 use Rattle.read_tuning.proofs.is_key_dump.Tie as tie

@@ -6,12 +6,12 @@ use native.Mathlib.Omega.{arith}
 use denote.Ref.{now}
 use Rattle.messages.specs.declared.head.Head.the-variants as head
 use Rattle.messages.specs.Messages.{plain-answer}
-use Rattle.reading.proofs.Laws.Answers.{reads-none}
-use Rattle.reading.proofs.Laws.Lists.{entries-length}
+use Rattle.read_places.proofs.Laws.Answers.{reads-none}
+use Rattle.read_places.proofs.Laws.Lists.{entries-length}
 use Rattle.read_tuning.proofs.Laws.Heads.{changes-not, changes-read}
-use Rattle.reading.proofs.Laws.Numbers.{seven-get, value-get}
+use Rattle.read_places.proofs.Laws.Numbers.{seven-get, value-get}
 use Rattle.messages.specs.Entries.{change-entry}
-use Rattle.reading.specs.Places.{value-at, change-at}
+use Rattle.read_places.specs.Places.{value-at, change-at}
 use borrow.Author.Needs.{needs}
 use Rattle.read_tuning.proofs.note_change.Statement.{statement}
 use Rattle.read_tuning.proofs.note_change.Tie as tie

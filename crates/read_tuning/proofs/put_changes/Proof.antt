@@ -9,8 +9,8 @@ use lib.Seq.{sets}
 use denote.Ref.{now}
 use Rattle.util.proofs.Laws.Splice.{store-turn, store-done}
 use Rattle.messages.specs.Entries.{change-entry}
-use Rattle.reading.specs.Places.{change-at, change-entries}
-use Rattle.reading.proofs.Laws.Lists.{entries-length, entries-get}
+use Rattle.read_places.specs.Places.{change-at, change-entries}
+use Rattle.read_places.proofs.Laws.Lists.{entries-length, entries-get}
 use Rattle.read_tuning.proofs.put_changes.Statement.{statement}
 use Rattle.read_tuning.proofs.put_changes.Tie as tie
 

@@ -22,8 +22,8 @@ use Rattle.messages.specs.Messages.{Message, make, refused, given, plain-answer
 use Rattle.messages.specs.MessageOf.{headOf, messageOf}
 use Rattle.messages.specs.Walk.{is-given}
 use Rattle.messages.proofs.Exact.{refused-given}
-use Rattle.reading.specs.declared.Found.the-variants.{Is, Nothing}
-use Rattle.reading.specs.Found.{Reads, data-of, entries-of, text-from, found-of, is-read}
+use Rattle.read_places.specs.declared.Found.the-variants.{Is, Nothing}
+use Rattle.read_places.specs.Found.{Reads, data-of, entries-of, text-from, found-of, is-read}
 use Rattle.reader.specs.declared.opening.Opening.the-variants as opening
 use Rattle.reader.specs.declared.lent.Reading.the-variants as reading
 use Rattle.reader.specs.declared.lent.Reading.{Reading}

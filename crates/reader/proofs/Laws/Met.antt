@@ -19,8 +19,8 @@ use Rattle.messages.specs.declared.«system_exclusive».UniversalNonRealTimeMsg
 use Rattle.messages.specs.Layouts.{Fields}
 use Rattle.messages.specs.Messages.{Message, make, Answer, refused, given, text, text-start, file-data, entries, places, holding, held-unless}
 use Rattle.messages.specs.MessageOf.{messageOf, headOf, fieldsOf}
-use Rattle.reading.specs.Places.{data-at}
-use Rattle.reading.specs.Found.{data-of, entries-of, text-from}
+use Rattle.read_places.specs.Places.{data-at}
+use Rattle.read_places.specs.Found.{data-of, entries-of, text-from}
 use Rattle.reader.specs.declared.lent.Reading.{Reading}
 use Rattle.reader.specs.declared.lent.Reading.the-variants as reading
 use Rattle.reader.specs.Opening.{inner, fields-in}

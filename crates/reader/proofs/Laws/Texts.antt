@@ -25,7 +25,7 @@ use Rattle.messages.specs.declared.«system_exclusive».UniversalNonRealTimeMsg
 use Rattle.messages.specs.Layouts.{text-at}
 use Rattle.messages.specs.Messages.{text}
 use Rattle.messages.specs.MessageOf.{headOf, messageOf}
-use Rattle.reading.specs.Found.{text-from}
+use Rattle.read_places.specs.Found.{text-from}
 
 -- the part, or nothing where the head has no text
 abbrev pub text-of : UniversalNonRealTimeMsg → List ℕ → List ℕ

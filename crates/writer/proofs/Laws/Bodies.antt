@@ -20,8 +20,8 @@ use Rattle.messages.specs.format.Packed.{held-bytes-same}
 use Rattle.messages.specs.Fields.{name-of-16, type-chars, Four}
 use Rattle.messages.specs.Structures.{AfterMaker, reply}
 use Rattle.messages.specs.MessageOf.{head-file, fields-file, head-request, fields-request, head-keys, fields-keys, head-midi, fields-midi}
-use Rattle.fronts.specs.Fronts.{front-reply, front-file, front-request, front-keys, front-midi}
-use Rattle.parts.specs.Parts.{part-file, part-keys}
+use Rattle.write_fronts.specs.Fronts.{front-reply, front-file, front-request, front-keys, front-midi}
+use Rattle.write_lists.specs.Parts.{part-file, part-keys}
 use Rattle.writer.proofs.Laws.Fronts.{maker-same, device-held, letters-same}
 use Rattle.writer.proofs.Laws.Frames.{body-of}
 

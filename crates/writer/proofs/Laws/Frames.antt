@@ -12,8 +12,8 @@ use Rattle.messages.specs.declared.«sample_dump».ExtendedSampleDumpMsg.{Exten
 use Rattle.messages.specs.declared.«sample_dump».ExtendedSampleDumpMsg.the-variants as extended
 use Rattle.messages.specs.Layouts.{Fields, form, code}
 use Rattle.messages.specs.MessageOf.{head-sample, fields-sample, head-extended, fields-extended}
-use Rattle.fronts.specs.Fronts.{front-sample, front-extended}
-use Rattle.parts.specs.Parts.{part-sample, part-extended}
+use Rattle.write_fronts.specs.Fronts.{front-sample, front-extended}
+use Rattle.write_lists.specs.Parts.{part-sample, part-extended}
 use Rattle.writer.proofs.Laws.Fronts.{format-same, loop-held, loop-bytes, extended-loop-bytes}
 
 -- 7E, the device's byte v, the head and its fields as they are settled

@@ -28,7 +28,7 @@ use Rattle.messages.specs.Fields.{high, type-bytes, most-name}
 use Rattle.messages.specs.Entries.{change-of}
 use Rattle.messages.specs.Contents.{contents, too-large, longer}
 use Rattle.messages.specs.MessageOf.{headOf, fieldsOf, head-file, fields-file}
-use Rattle.parts.specs.Parts.{part-size, size-sample, size-extended, size-file, size-select, size-reference}
+use Rattle.write_lists.specs.Parts.{part-size, size-sample, size-extended, size-file, size-select, size-reference}
 use Rattle.writer.proofs.Laws.Contents.{length-map}
 
 -- a list that is not too long

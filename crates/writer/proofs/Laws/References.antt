@@ -25,8 +25,8 @@ use Rattle.messages.specs.Maps.{sound-file-map, maps-size, reference-code, refe
 use Rattle.messages.specs.Entries.{map-of}
 use Rattle.messages.specs.Contents.{contents, high-url, other-kind}
 use Rattle.messages.specs.MessageOf.{head-reference, fields-reference, head-select, fields-select, any-select}
-use Rattle.fronts.specs.Fronts.{front-reference, start-2, map-length}
-use Rattle.parts.specs.Parts.{part-reference, part-select, part-maps}
+use Rattle.write_fronts.specs.Fronts.{front-reference, start-2, map-length}
+use Rattle.write_lists.specs.Parts.{part-reference, part-select, part-maps}
 use Rattle.writer.proofs.Laws.Contents.{length-map}
 use Rattle.writer.proofs.Laws.Frames.{body-of}
 

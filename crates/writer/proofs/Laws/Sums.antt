@@ -22,10 +22,10 @@ use Rattle.messages.specs.MessageOf.{headOf, head-extended, head-request, head-
 use Rattle.messages.specs.declared.«system_exclusive».DeviceID.{DeviceID}
 use Rattle.messages.specs.declared.«system_exclusive».UniversalNonRealTimeMsg.{UniversalNonRealTimeMsg}
 use Rattle.messages.specs.Fields.{device-byte}
-use Rattle.fronts.specs.Fronts.{frontOf}
-use Rattle.fronts.specs.Sizes.{front-size}
-use Rattle.fronts.proofs.Laws.{front-length}
-use Rattle.parts.specs.Parts.{partOf}
+use Rattle.write_fronts.specs.Fronts.{frontOf}
+use Rattle.write_fronts.specs.Sizes.{front-size}
+use Rattle.write_fronts.proofs.Laws.{front-length}
+use Rattle.write_lists.specs.Parts.{partOf}
 use Rattle.writer.specs.declared.Sizes.{Sizes}
 use Rattle.writer.specs.Frames.{sum-of, wire, frame-of, SizesOf}
 

@@ -21,8 +21,8 @@ use Rattle.messages.specs.Layouts.{summed}
 use Rattle.messages.specs.Messages.{settle, framed, with-sum}
 use Rattle.messages.specs.Contents.{contents}
 use Rattle.messages.specs.MessageOf.{headOf, fieldsOf, messageOf}
-use Rattle.fronts.specs.Fronts.{frontOf}
-use Rattle.parts.specs.Parts.{partOf}
+use Rattle.write_fronts.specs.Fronts.{frontOf}
+use Rattle.write_lists.specs.Parts.{partOf}
 use Rattle.writer.specs.Frames.{sum-of, wire}
 use Rattle.writer.proofs.Laws.Fronts.{device-held}
 use Rattle.writer.proofs.Laws.Frames.{body-of, sample-parts, extended-parts}

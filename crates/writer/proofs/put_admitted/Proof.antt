@@ -7,8 +7,8 @@ use lib.ListN.{length}
 use denote.Ref.{now}
 use borrow.Author.Needs.{needs}
 use Rattle.util.specs.Splice.{front}
-use Rattle.fronts.specs.Fronts.{frontOf}
-use Rattle.parts.specs.Parts.{partOf}
+use Rattle.write_fronts.specs.Fronts.{frontOf}
+use Rattle.write_lists.specs.Parts.{partOf}
 use Rattle.writer.specs.Frames.{frame-of, wire}
 use Rattle.writer.proofs.Laws.Sums.{frame-by}
 use Rattle.writer.proofs.put_admitted.Statement.{statement}

@@ -9,10 +9,10 @@ use denote.Ref.{now}
 use borrow.Author.Needs.{needs}
 use borrow.Rule.Slice.PartMut.{putMid}
 use Rattle.util.proofs.Laws.Splice.{Run, run-none, run-set, run-part, run-splice, run-room, run-length}
-use Rattle.fronts.specs.Fronts.{frontOf}
-use Rattle.fronts.specs.Sizes.{front-size}
-use Rattle.fronts.proofs.Laws.{front-length}
-use Rattle.parts.specs.Parts.{partOf}
+use Rattle.write_fronts.specs.Fronts.{frontOf}
+use Rattle.write_fronts.specs.Sizes.{front-size}
+use Rattle.write_fronts.proofs.Laws.{front-length}
+use Rattle.write_lists.specs.Parts.{partOf}
 use Rattle.writer.specs.Frames.{sum-of, wire}
 use Rattle.writer.proofs.Laws.Sums.{wire-length, run-body}
 use Rattle.writer.proofs.put_frame.Statement.{statement}

@@ -4,8 +4,8 @@ use mathlib.Core.Path.{sym, _∙_}
 use native.Mathlib.Omega.{arith}
 use denote.Ref.{now}
 use borrow.Author.Needs.{needs}
-use Rattle.fronts.proofs.Laws.{front-small}
-use Rattle.parts.proofs.Laws.Sizes.{length-part}
+use Rattle.write_fronts.proofs.Laws.{front-small}
+use Rattle.write_lists.proofs.Laws.Sizes.{length-part}
 use Rattle.writer.proofs.Laws.Lengths.{part-small}
 use Rattle.writer.proofs.sizes_of.Statement.{statement}
 use Rattle.writer.proofs.sizes_of.Tie as tie

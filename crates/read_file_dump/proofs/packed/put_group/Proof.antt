@@ -5,7 +5,7 @@ use lib.ListN.{length-set}
 use denote.Ref.{now}
 use borrow.Author.Needs.{needs}
 use Rattle.util.proofs.Laws.Splice.{sets-front-as}
-use Rattle.reading.proofs.Laws.Numbers.{seven-get}
+use Rattle.read_places.proofs.Laws.Numbers.{seven-get}
 use Rattle.read_file_dump.proofs.Laws.Packed.{group-data}
 use Rattle.read_file_dump.proofs.packed.put_group.Statement.{statement}
 use Rattle.read_file_dump.proofs.packed.put_group.Tie as tie

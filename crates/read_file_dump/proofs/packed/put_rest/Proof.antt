@@ -9,8 +9,8 @@ use denote.Ref.{now}
 use borrow.Author.Needs.{needs}
 use Rattle.util.proofs.Laws.Splice.{item-turn, item-done, tail-room}
 use Rattle.util.specs.Splice.{splice}
-use Rattle.reading.proofs.Laws.Numbers.{seven-get}
-use Rattle.reading.specs.Places.{next-k, next-tops, data-byte, data-from}
+use Rattle.read_places.proofs.Laws.Numbers.{seven-get}
+use Rattle.read_places.specs.Places.{next-k, next-tops, data-byte, data-from}
 use Rattle.read_file_dump.proofs.Laws.Steps.{data-turn, data-none, next-k-small, next-tops-small}
 use Rattle.read_file_dump.proofs.packed.put_rest.Statement.{statement}
 use Rattle.read_file_dump.proofs.packed.put_rest.Tie as tie

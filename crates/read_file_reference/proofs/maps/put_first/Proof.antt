@@ -10,8 +10,8 @@ use lib.ListN.{length, drop, length-set}
 use lib.Seq.{sets}
 use Rattle.util.proofs.Laws.Splice.{store-turn, store-done}
 use Rattle.messages.specs.Entries.{map-entry}
-use Rattle.reading.specs.Places.{map-at, map-entries}
-use Rattle.reading.proofs.Laws.Lists.{entries-length, entries-get}
+use Rattle.read_places.specs.Places.{map-at, map-entries}
+use Rattle.read_places.proofs.Laws.Lists.{entries-length, entries-get}
 use Rattle.read_file_reference.proofs.maps.put_first.Statement.{statement}
 use Rattle.read_file_reference.proofs.maps.put_first.Tie as tie
 

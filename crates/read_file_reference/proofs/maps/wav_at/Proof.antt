@@ -6,7 +6,7 @@ use native.Mathlib.Omega.{arith}
 use mir.Syntax.{w16}
 use mir.Facts.{toZ-ofZ}
 use denote.Ref.{now}
-use Rattle.reading.proofs.Laws.Numbers.{value-lt}
+use Rattle.read_places.proofs.Laws.Numbers.{value-lt}
 use Rattle.read_file_reference.proofs.maps.wav_at.Statement.{statement}
 use Rattle.read_file_reference.proofs.maps.wav_at.Tie as tie
 

@@ -3,7 +3,7 @@
 use mathlib.Core.Path.{sym, ap}
 use native.Mathlib.Omega.{arith}
 use denote.Ref.{now}
-use Rattle.reading.specs.Found.{is-read}
+use Rattle.read_places.specs.Found.{is-read}
 use Rattle.read_sample_dump.proofs.Laws.SampleDump.{header-not, header-low, header-high}
 use borrow.Author.Needs.{needs}
 use Rattle.read_sample_dump.proofs.sample_dump.is_header.Statement.{statement}

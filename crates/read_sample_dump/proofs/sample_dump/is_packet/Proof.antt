@@ -4,7 +4,7 @@ use lib.ListN.{length}
 use denote.Ref.{now}
 use Rattle.messages.specs.declared.head.Head.the-variants as head
 use Rattle.messages.specs.Layouts.{form}
-use Rattle.reading.proofs.Laws.Answers.{read-if}
+use Rattle.read_places.proofs.Laws.Answers.{read-if}
 use Rattle.read_sample_dump.proofs.Laws.SampleDump.{packet-not, packet-reads}
 use Rattle.read_sample_dump.proofs.sample_dump.is_packet.Statement.{statement}
 use Rattle.read_sample_dump.proofs.sample_dump.is_packet.Tie as tie

@@ -2,7 +2,7 @@
 use borrow.Author.Needs.{needs}
 use denote.Ref.{now}
 use Rattle.messages.specs.declared.head.Head.the-variants as head
-use Rattle.reading.proofs.Laws.Answers.{reads-none}
+use Rattle.read_places.proofs.Laws.Answers.{reads-none}
 use Rattle.read_sample_dump.proofs.Laws.SampleDump.{loop-points-not}
 use Rattle.read_sample_dump.proofs.sample_dump.loop_points.Statement.{statement}
 use Rattle.read_sample_dump.proofs.sample_dump.loop_points.Tie as tie

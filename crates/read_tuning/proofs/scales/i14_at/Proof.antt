@@ -9,8 +9,8 @@ use denote.Ref.{now}
 use Rattle.util.specs.Groups.{Seven}
 use Rattle.util.specs.Signed.{unbiased}
 use Rattle.util.proofs.Laws.Places.{value-step, value-one}
-use Rattle.reading.specs.Places.{value-at}
-use Rattle.reading.proofs.Laws.Numbers.{seven-get}
+use Rattle.read_places.specs.Places.{value-at}
+use Rattle.read_places.proofs.Laws.Numbers.{seven-get}
 use Rattle.read_tuning.proofs.Laws.Scales.{from-bits-16}
 use borrow.Author.Needs.{needs}
 use Rattle.read_tuning.proofs.scales.i14_at.Statement.{statement}

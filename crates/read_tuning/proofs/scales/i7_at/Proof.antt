@@ -2,7 +2,7 @@
 -- Assumes nothing.
 use mathlib.Core.Path.{ap, _∙_}
 use denote.Ref.{now}
-use Rattle.reading.proofs.Laws.Numbers.{value-lt}
+use Rattle.read_places.proofs.Laws.Numbers.{value-lt}
 use Rattle.util.specs.Signed.{unbiased}
 use Rattle.read_tuning.proofs.Laws.Scales.{from-bits-8}
 use borrow.Author.Needs.{needs}

@@ -5,7 +5,7 @@ use Prim.Native.Nat.{_-_, _≤_}
 use native.Mathlib.Omega.{arith}
 use denote.Ref.{now}
 use lib.ListN.{length, take, drop, length-take, length-drop}
-use Rattle.vectors.specs.Extents.{CaseIn}
+use Rattle.replay_vectors.specs.Extents.{CaseIn}
 use borrow.Author.Needs.{needs}
 use Rattle.replay.proofs.files.case_in.Statement.{statement}
 use Rattle.replay.proofs.files.case_in.Tie as tie

@@ -7,7 +7,7 @@ use native.Mathlib.Omega.{arith}
 use denote.Ref.{now}
 use lib.ListN.{length, getD, length-set}
 use lib.Seq.{getD-set-other}
-use Rattle.vectors.proofs.Laws.{store-more}
+use Rattle.replay_vectors.proofs.Laws.{store-more}
 use Rattle.replay.proofs.files.shift.Statement.{statement}
 use Rattle.replay.proofs.files.shift.Tie as tie
 

@@ -2,7 +2,7 @@
 -- Assumes nothing.
 use denote.Ref.{now}
 use borrow.Author.Needs.{needs}
-use Rattle.fronts.proofs.Laws.{code, field, done, put}
+use Rattle.write_fronts.proofs.Laws.{code, field, done, put}
 use Rattle.writer.specs.Frames.{wire}
 use Rattle.writer.proofs.handshake.put_handshake.Statement.{statement}
 use Rattle.writer.proofs.handshake.put_handshake.Tie as tie

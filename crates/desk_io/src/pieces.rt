@@ -1,0 +1,146 @@
+// A file read in pieces that overlap.
+use desk_print::complain;
+ghost use mathlib.Core.Path.{_≡_};
+ghost use Prim.Native.Nat.{ℕ, _+_, _-_, _≤_, _<_};
+ghost use lib.ListN.{length, getD};
+ghost use Rattle.desk_io.specs.Pieces.{NextPiece};
+
+// The bytes of a whole piece: as many as the walk takes.
+pub const PIECE: usize = 65535;
+
+// The bytes that two pieces share: no frame has more.
+pub const OVERLAP: usize = 4096;
+
+// Bytes of a file: so many of the buffer, the first of which has the offset base in the file; or a read that failed.
+pub struct Piece {
+    pub base: u64,
+    pub len: usize,
+    pub is_failed: bool,
+}
+
+// The sum of two numbers, up to the largest number.
+pub fn sum(a: u64, b: u64) -> u64 {
+    if b <= u64::MAX - a { a + b } else { u64::MAX }
+}
+
+// Where in a piece the next one begins.
+pub fn next_start(len: usize) -> usize
+    ensures { λ r. ⌜ NextPiece len r ⌝ }
+{
+    if len < PIECE { len } else { len - OVERLAP }
+}
+
+// Moves the bytes from a place up to an end to the start.
+fn shift(room: &mut [u8], at: usize, end: usize)
+    requires { ⌜ (at ≤ end) × (end ≤ length (now room)) ⌝ }
+    ensures { λ _. ⌜ ((k : ℕ) → k < end - at → getD (now (room .exit)) k 0 ≡ getD (now (room .entry)) (at + k) 0) ⌝ }
+{
+    let mut i = 0;
+    while i < end - at {
+        room[i] = room[at + i];
+        i += 1;
+    }
+}
+
+// What reading gave: so many bytes, or a failure.
+pub struct Got {
+    pub is_failed: bool,
+    pub count: usize,
+}
+
+// Reads bytes of the file to the start of a part of the buffer.
+fn read_part(fd: i32, part: &mut [u8]) -> Got
+    ensures { λ r. ⌜ r .count ≤ length (now (part .entry)) ⌝ }
+{
+    let got = libc::read(fd, part);
+    Got {
+        is_failed: got < 0,
+        count: io::count(got, part),
+    }
+}
+
+// Reads the file up to its end or the buffer's.
+pub fn read_all(fd: i32, room: &mut [u8]) -> Got
+    ensures { λ r. ⌜ r .count ≤ length (now (room .entry)) ⌝ }
+{
+    let mut n = 0;
+    while n < room.len() {
+        let got = read_part(fd, &mut room[n..]);
+        if got.is_failed {
+            return got;
+        }
+        if got.count == 0 {
+            break;
+        }
+        n += got.count;
+    }
+    Got {
+        is_failed: false,
+        count: n,
+    }
+}
+
+// The first piece of a file whose next byte has an offset.
+pub fn first(fd: i32, room: &mut [u8], base: u64) -> Piece
+    ensures { λ r. ⌜ r .len ≤ length (now (room .entry)) ⌝ }
+{
+    let got = read_all(fd, room);
+    Piece {
+        base,
+        len: got.count,
+        is_failed: got.is_failed,
+    }
+}
+
+// The next piece: the bytes from a place on move to the start, and more are read behind them.
+pub fn next(fd: i32, room: &mut [u8], p: Piece, at: usize) -> Piece
+    requires { ⌜ (at ≤ p .len) × (p .len ≤ length (now room)) ⌝ }
+    ensures { λ r. ⌜ r .len ≤ length (now (room .entry)) ⌝ }
+{
+    shift(room, at, p.len);
+    let rest = p.len - at;
+    let got = read_all(fd, &mut room[rest..]);
+    Piece {
+        base: sum(p.base, at as u64),
+        len: rest + got.count,
+        is_failed: got.is_failed,
+    }
+}
+
+// Says why a file cannot be opened or read.
+pub fn unreadable(path: &[u8], errors: i32) {
+    let error = os::errno();
+    if error == libc::ENOENT {
+        return complain(errors, path, b"there is no such file");
+    }
+    if error == libc::EISDIR {
+        return complain(errors, path, b"is a directory, not a file");
+    }
+    if error == libc::EACCES {
+        return complain(errors, path, b"may not be read");
+    }
+    complain(errors, path, b"cannot be read");
+}
+
+// Opens a file for reading; a negative number, and a line that says why, where that fails.
+pub fn open(path: &[u8], errors: i32) -> i32 {
+    let fd = os::open_read(path);
+    if fd < 0 {
+        unreadable(path, errors);
+    }
+    fd
+}
+
+// Goes to an offset of an open file; whether that was done.
+pub fn seek(fd: i32, offset: u64) -> bool {
+    if 4611686018427387903 < offset {
+        return false;
+    }
+    0 <= libc::lseek(fd, offset as i64, libc::SEEK_SET)
+}
+
+// Says on standard error how far a long file is read.
+pub fn progress(base: u64) {
+    io::print_decimal(libc::STDERR_FILENO, base / 1000000);
+    io::write_all(libc::STDERR_FILENO, b" million bytes read\n");
+}

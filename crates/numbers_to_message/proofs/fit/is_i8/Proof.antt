@@ -1,0 +1,16 @@
+-- `numbers::fit::is_i8` meets its contract: the tests are those of the definition.
+-- Assumes nothing.
+use borrow.Author.Tests.{lt-ltb, le-ltb}
+use mathlib.Core.Path.{refl}
+use Rattle.numbers_to_message.proofs.Laws.{upper-some}
+use Rattle.numbers_to_message.proofs.fit.is_i8.Statement.{statement}
+use Rattle.numbers_to_message.proofs.fit.is_i8.Tie as tie
+
+returns : tie.Need-returns
+returns c = rw (lt-ltb _ _ (c .if1 .taken))
+
+returns-2 : tie.Need-returns-2
+returns-2 c = rw (le-ltb _ _ (c .if1 .left)) (upper-some (c .before .args .x) 18446744073709551488 _ _ refl)
+
+pub is-i8-spec : {M : Type 1} → statement M
+is-i8-spec = tie.close (tie.spec returns returns-2)

@@ -1,0 +1,20 @@
+-- `numbers::fit::is_loop_type` meets its contract: the tests are those of the definition.
+-- Assumes nothing.
+use borrow.Author.Tests.{ne-eqb}
+use Rattle.numbers_to_message.proofs.fit.is_loop_type.Statement.{statement}
+use Rattle.numbers_to_message.proofs.fit.is_loop_type.Tie as tie
+
+returns : tie.Need-returns
+returns c = rw (c .match .keys1)
+
+returns-2 : tie.Need-returns-2
+returns-2 c = rw (c .match .keys2)
+
+returns-3 : tie.Need-returns-3
+returns-3 c = rw (c .match .keys3)
+
+returns-4 : tie.Need-returns-4
+returns-4 c = let r = c .match .rest in rw (ne-eqb _ _ (r .0 .0 .1), ne-eqb _ _ (r .0 .1), ne-eqb _ _ (r .1))
+
+pub is-loop-type-spec : {M : Type 1} → statement M
+is-loop-type-spec = tie.close (tie.spec returns returns-2 returns-3 returns-4)

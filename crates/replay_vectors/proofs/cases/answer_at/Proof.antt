@@ -1,0 +1,53 @@
+-- `vectors::cases::answer_at` meets its contract: each part starts where the one before it ends, and ends within the slice.
+-- Assumes nothing.
+use Rattle.replay_vectors.proofs.Laws.{whole-in}
+use borrow.Author.Needs.{needs}
+use Rattle.replay_vectors.proofs.cases.answer_at.Statement.{statement}
+use Rattle.replay_vectors.proofs.cases.answer_at.Tie as tie
+
+bytes-at-requires : tie.Need-bytes-at-requires
+bytes-at-requires c κs = whole-in (c .before .out-numbers .given .1) (c .before .before .before .few-at .ensures) .1 .within
+
+many-at-requires : tie.Need-many-at-requires
+many-at-requires c κs = whole-in (c .before .bytes .given .1) (c .before .before .before .bytes-at .ensures) .1 .within
+
+returns-5 : tie.Need-returns-5
+returns-5 c =
+    let q = c .before in
+    let b = q .before .before .before .before in
+    let n = b .before .before .before .before in
+    let in-q = whole-in (q .out-entries .given .1) (q .before .before .many-at .ensures) in
+    let in-b = whole-in (b .bytes .given .1) (b .before .before .bytes-at .ensures) in
+    let in-n = whole-in (n .out-numbers .given .1) (n .before .before .few-at .ensures) in
+    record {
+      out-numbers-start = in-n .0;
+      bytes-start = in-b .0;
+      out-entries-start = in-q .0;
+      out-numbers-in = in-n .1;
+      bytes-in = in-b .1;
+      out-entries-in = in-q .1;
+    }
+
+pub answer-at-spec : {M : Type 1} → statement M
+answer-at-spec =
+    tie.close
+    (tie.spec
+    (λ c. search needs)
+    (λ c. search needs)
+    (λ c. search needs)
+    (λ c. search needs)
+    (λ c κs. search needs)
+    (λ c. search needs)
+    (λ c κs. search needs)
+    (λ c. search needs)
+    (λ c. search needs)
+    (λ c. search needs)
+    bytes-at-requires
+    (λ c. search needs)
+    (λ c. search needs)
+    (λ c. search needs)
+    many-at-requires
+    (λ c. search needs)
+    (λ c. search needs)
+    (λ c. search needs)
+    returns-5)
