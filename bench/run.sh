@@ -1,18 +1,18 @@
 #!/usr/bin/env bash
 # bench/run.sh ORACLE SOURCES: times the functions of include/pasoreum.h, as programs link them, and prints one table: writing against the crate,
 # reading and the walk against plain C. ORACLE is the folder with the oracle's build.sh, SOURCES the folder with the crate's source files.
-# PASOREUM_LIB_DIR names the folder of another libboundary.a.
+# PASOREUM_LIB_DIR names the folder of another libpasoreum.a.
 set -eu
 oracle=$(cd "${1:?the oracle, a folder with build.sh}" && pwd)
 sources=$(cd "${2:?the folder of the crate source files}" && pwd)
 . "$(dirname "$0")/archive.sh"
-build_boundary
+build_archive
 build_crate "$oracle" "$sources"
 add_timed
 rustc $release --edition 2024 --crate-name timing_write -L "$work/crate" --extern midi_msg="$work/crate/libmidi_msg.rlib" \
-    --extern bstr="$work/crate/libbstr.rlib" "$here/bench/write.rs" -o "$work/write" -L "$lib" -l static=boundary
-gcc -std=gnu11 -O3 -Wall -Wextra -I "$here/include" "$here/bench/read.c" "$lib/libboundary.a" -o "$work/read"
-gcc -std=gnu11 -O2 -Wall -Wextra -I "$here/include" "$here/bench/walk.c" "$lib/libboundary.a" -o "$work/walk"
+    --extern bstr="$work/crate/libbstr.rlib" "$here/bench/write.rs" -o "$work/write" -L "$lib" -l static=pasoreum
+gcc -std=gnu11 -O3 -Wall -Wextra -I "$here/include" "$here/bench/read.c" "$lib/libpasoreum.a" -o "$work/read"
+gcc -std=gnu11 -O2 -Wall -Wextra -I "$here/include" "$here/bench/walk.c" "$lib/libpasoreum.a" -o "$work/walk"
 
 # middle PROGRAM ROWS FROM TO: of five runs the one whose ratio, in the columns FROM to TO, is the middle one, row by row. A run may fall into a busy moment
 # of the machine, and how well a processor learns the branches of a stream differs from run to run.

@@ -1,14 +1,14 @@
 #!/usr/bin/env bash
-# What programs link, libboundary.a, held against the model of the scope and the crate's own source; then under valgrind, and with a small stack.
+# What programs link, libpasoreum.a, held against the model of the scope and the crate's own source; then under valgrind, and with a small stack.
 # usage: tests/boundary.sh ORACLE SOURCES [COUNT]
 # ORACLE is the folder with the oracle's build.sh, SOURCES the folder with the crate's source files, COUNT how many messages, 1,000,000 if not given.
-# PASOREUM_LIB_DIR names the folder of another libboundary.a.
+# PASOREUM_LIB_DIR names the folder of another libpasoreum.a.
 set -eu
 oracle=$(cd "${1:?the oracle, a folder with build.sh}" && pwd)
 sources=$(cd "${2:?the folder of the crate source files}" && pwd)
 count=${3:-1000000}
 . "$(dirname "$0")/../bench/archive.sh"
-build_boundary
+build_archive
 build_crate "$oracle" "$sources"
 
 mkdir "$work/driver"

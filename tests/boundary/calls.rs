@@ -1,5 +1,5 @@
 //! The functions of include/pasoreum.h, and memory that is lent to them with a pattern in it and around it.
-#[link(name = "boundary", kind = "static")]
+#[link(name = "pasoreum", kind = "static")]
 extern "C" {
     fn pasoreum_write(
         numbers: *const u64, numbers_len: usize, text: *const u8, text_len: usize, entries: *const u64, entries_len: usize, out: *mut u8,

@@ -90,7 +90,7 @@ impl Refusal {
             64 => Self::NoMessage,
             65 => Self::NoKind,
             66 => Self::NoRoom,
-            _ => panic!("libboundary.a is of another version: refusal {number}"),
+            _ => panic!("libpasoreum.a is of another version: refusal {number}"),
         }
     }
 }

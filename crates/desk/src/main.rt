@@ -23,7 +23,7 @@ fn main() {
     let mut words = io::large_buffer();
     let n = push_arguments(&mut words);
     desk_commands::run(
-        reader::part(&words, 0, n),
+        util::bytes::sub_slice(&words, 0, n),
         libc::STDIN_FILENO,
         libc::STDERR_FILENO,
     );

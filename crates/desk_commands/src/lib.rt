@@ -2,11 +2,11 @@
 pub mod words;
 
 use check::same;
+use desk_decimals::Number;
 use desk_files::extract;
 use desk_files::list;
 use desk_files::list::Scope;
 use desk_files::show;
-use desk_decimals::Number;
 use desk_print::complain;
 use desk_tunings::save;
 use messages::file_reference::Kind;

@@ -25,7 +25,7 @@ fn join_frame(frame: &[u8], kind: Kind, out: i32, j: Joined) -> Joined {
             from: _,
             len: _,
             places,
-        } => j.message(out, m, reader::part(&data, 0, places)),
+        } => j.message(out, m, util::bytes::sub_slice(&data, 0, places)),
         Reading::Refused(_) => j,
     }
 }
@@ -36,7 +36,7 @@ fn join_pair(s: &[u8], offset: usize, len: usize, kind: Kind, out: i32, j: Joine
         return j;
     }
     if offset < pieces::next_start(s.len()) {
-        return join_frame(reader::part(s, offset, len), kind, out, j);
+        return join_frame(util::bytes::sub_slice(s, offset, len), kind, out, j);
     }
     j
 }
@@ -218,7 +218,7 @@ pub fn extract(path: &[u8], kind: Kind, offset: u64, to: &[u8], errors: i32) {
     if n == 0 {
         return;
     }
-    let frame = frames::front(reader::part(&room, 0, n));
+    let frame = frames::front(util::bytes::sub_slice(&room, 0, n));
     if frame.len() == 0 {
         return show::no_message(path, offset, errors);
     }

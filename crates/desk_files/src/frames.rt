@@ -1,9 +1,9 @@
 // One stretch of bytes: where it ends, and its line.
+use desk_messages::refusals;
 use desk_print::fields::Style;
 use desk_print::hex;
 use desk_print::number;
 use desk_print::put;
-use desk_messages::refusals;
 use messages::file_reference::Kind;
 use reader::lent::Reading;
 use util::groups::at;
@@ -83,7 +83,12 @@ fn describe(frame: &[u8], kind: Kind) {
             from,
             len,
             places,
-        } => desk_messages::message(Style::Line, m, reader::part(frame, from, len), places),
+        } => desk_messages::message(
+            Style::Line,
+            m,
+            util::bytes::sub_slice(frame, from, len),
+            places,
+        ),
         Reading::Refused(r) => refusals::explain(frame, r),
     }
 }

@@ -74,7 +74,11 @@ fn list_pair(
     t: Tally,
 ) -> Tally {
     if offset < next {
-        frames::line(reader::part(s, offset, len), sum(base, offset as u64), kind);
+        frames::line(
+            util::bytes::sub_slice(s, offset, len),
+            sum(base, offset as u64),
+            kind,
+        );
         return t.frame();
     }
     t

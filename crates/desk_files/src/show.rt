@@ -1,13 +1,13 @@
 // One message, every field a line.
 use super::frames;
 use desk_io::pieces;
+use desk_messages::lists;
+use desk_messages::system;
 use desk_print::complain;
 use desk_print::complain_number;
 use desk_print::fields::Style;
 use desk_print::number;
 use desk_print::put;
-use desk_messages::lists;
-use desk_messages::system;
 use messages::file_dump::FileDumpMsg;
 use messages::file_reference::Kind;
 use messages::system_exclusive::DeviceID;
@@ -67,8 +67,17 @@ fn show_frame(frame: &[u8], offset: u64, kind: Kind) {
             places,
         } => {
             show_common(frame, device);
-            desk_messages::message(Style::Lines, m, reader::part(frame, from, len), places);
-            show_lists(m, reader::part(&data, 0, places), first(&entries, places));
+            desk_messages::message(
+                Style::Lines,
+                m,
+                util::bytes::sub_slice(frame, from, len),
+                places,
+            );
+            show_lists(
+                m,
+                util::bytes::sub_slice(&data, 0, places),
+                first(&entries, places),
+            );
         }
         Reading::Refused(r) => frames::refused(frame, offset, r),
     }
@@ -115,7 +124,7 @@ pub fn show(path: &[u8], kind: Kind, offset: u64, errors: i32) {
     if n == 0 {
         return;
     }
-    let frame = frames::front(reader::part(&room, 0, n));
+    let frame = frames::front(util::bytes::sub_slice(&room, 0, n));
     if frame.len() == 0 {
         return no_message(path, offset, errors);
     }

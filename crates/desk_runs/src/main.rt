@@ -12,7 +12,7 @@ ghost use lib.ListN.{length};
 fn run_with(w: &[u8], n: usize, path: &[u8]) {
     let input = os::open_read(path);
     let end = words::start_of(w, n);
-    desk_commands::run(reader::part(w, 0, end), input, STDOUT_FILENO);
+    desk_commands::run(util::bytes::sub_slice(w, 0, end), input, STDOUT_FILENO);
     if 0 <= input {
         libc::close(input);
     }
@@ -36,7 +36,7 @@ fn run_line(line: &[u8]) {
     put(line);
     put(b"\n");
     let n = split::split(line, &mut w);
-    run_words(reader::part(&w, 0, n));
+    run_words(util::bytes::sub_slice(&w, 0, n));
 }
 
 // The end of the line that begins at a place.

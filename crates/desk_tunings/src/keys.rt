@@ -55,9 +55,12 @@ pub fn said_in(line: &[u8]) -> Said {
     }
     let first = w.first;
     let second = w.second;
-    let key = reader::part(line, first, less(w.first_end, first));
+    let key = util::bytes::sub_slice(line, first, less(w.first_end, first));
     match desk_decimals::parse(key) {
-        Number::Is(n) => said_of(n, reader::part(line, second, less(w.second_end, second))),
+        Number::Is(n) => said_of(
+            n,
+            util::bytes::sub_slice(line, second, less(w.second_end, second)),
+        ),
         Number::Nothing => Said::NoKey,
     }
 }

@@ -124,7 +124,7 @@ fn save_message(
 ) {
     let mut out = io::buffer();
     match writer::write(DeviceID::AllCall, m, name, entries, &mut out, 0) {
-        Written::Frame(n) => output::save(path, reader::part(&out, 0, n), errors),
+        Written::Frame(n) => output::save(path, util::bytes::sub_slice(&out, 0, n), errors),
         Written::Refused(_) => complain(errors, path, b"the message cannot be written"),
     }
 }
@@ -159,7 +159,7 @@ pub fn tune(path: &[u8], program: &[u8], name: &[u8], input: i32, errors: i32) {
     let mut room = io::large_buffer();
     let n = read_input(input, &mut room, errors);
     if n < 65536 {
-        save_keys(path, p, name, reader::part(&room, 0, n), errors);
+        save_keys(path, p, name, util::bytes::sub_slice(&room, 0, n), errors);
     }
 }
 
@@ -205,6 +205,13 @@ pub fn make_scale(path: &[u8], bank: &[u8], program: &[u8], name: &[u8], input: 
     let mut room = io::large_buffer();
     let n = read_input(input, &mut room, errors);
     if n < 65536 {
-        save_scale(path, b, p, name, reader::part(&room, 0, n), errors);
+        save_scale(
+            path,
+            b,
+            p,
+            name,
+            util::bytes::sub_slice(&room, 0, n),
+            errors,
+        );
     }
 }

@@ -6,6 +6,7 @@ use mathlib.Core.List.{List, [], _∷_}
 use Prim.Native.Nat.{ℕ}
 use native.Mathlib.Omega.{arith}
 use lib.ListN.{take}
+use Rattle.util.specs.Limits.{most-changes}
 use Rattle.util.proofs.Laws.Options.{least-by-left}
 use Rattle.util.proofs.Laws.Refusals.{number-some}
 use Rattle.messages.specs.Types.{Refusal, Head, ManufacturerID, FileReferenceType}
@@ -15,7 +16,7 @@ use Rattle.messages.specs.declared.«file_reference».FileReferenceType.
 use Rattle.messages.specs.Refusals.{rank, least}
 use Rattle.messages.specs.format.{Part, all-refuse}
 use Rattle.messages.specs.Fields.{u7, tuning, high, type-bytes}
-use Rattle.messages.specs.Structures.{key-tuning, most-changes, AfterMaker, reply, revision, identity-reply}
+use Rattle.messages.specs.Structures.{key-tuning, AfterMaker, reply, revision, identity-reply}
 use Rattle.messages.specs.Maps.{BankSelect, mapList, mapOffset, WAVSelect, wavMap, wavMapOffset, AnySelect, bankSelect, wavSelect, bank-select, wav-select, select-for, sound-file-map}
 use Rattle.messages.specs.Layouts.{Fields, form}
 use Rattle.messages.specs.Messages.{Message, answer-number, refusal-number, refusal, given-unless, writeOf}

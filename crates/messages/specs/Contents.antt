@@ -4,6 +4,7 @@ use mathlib.Core.List.{List}
 use Prim.Native.Nat.{ℕ}
 use lib.Dec.{leb}
 use lib.ListN.{length}
+use Rattle.util.specs.Limits.{most-data, most-name, most-changes}
 use Rattle.util.specs.Fields.{fits-u28}
 use Rattle.util.specs.Options.{unless}
 use Rattle.messages.specs.Types.{Refusal, Head, ManufacturerID, FileReferenceType}
@@ -12,9 +13,8 @@ use Rattle.messages.specs.declared.head.Head.the-variants.{SampleDumpHea
 use Rattle.messages.specs.declared.«system_exclusive».ManufacturerID.the-variants.{OneByte, Extended}
 use Rattle.messages.specs.declared.«file_reference».FileReferenceType.the-variants.{DLS, SF2, WAV}
 use Rattle.messages.specs.Refusals.{least}
-use Rattle.messages.specs.format.{most-data, is-text}
-use Rattle.messages.specs.Fields.{high, type-bytes, most-name}
-use Rattle.messages.specs.Structures.{most-changes}
+use Rattle.messages.specs.format.{is-text}
+use Rattle.messages.specs.Fields.{high, type-bytes}
 use Rattle.messages.specs.Maps.{AnySelect, bankSelect, wavSelect}
 use Rattle.messages.specs.Layouts.{Fields}
 

@@ -1,6 +1,7 @@
 -- Lent entries: tunings, note changes and bank maps as numbers of 64 bits, one place each. Every number is some entry.
 use Prim.Native.Nat.{ℕ, _+_, _*_, _/_, _%_, _^_, min}
 use lib.Dec.{ltb}
+use Rattle.util.specs.Limits.{no-tuning}
 use Rattle.messages.specs.Types.{MaybeTuning, KeyTuning, SoundFileMap}
 use Rattle.messages.specs.declared.tuning.MaybeTuning.the-variants.{NoTuning, Tuned}
 use Rattle.util.specs.Pick.{pick}
@@ -8,12 +9,12 @@ use Rattle.messages.specs.Fields.{bit, is-set}
 
 -- semitone × 65,536 + fraction; 2^24 for no tuning
 abbrev pub tuning-entry : MaybeTuning → ℕ
-tuning-entry NoTuning = 2 ^ 24
+tuning-entry NoTuning = no-tuning
 tuning-entry (Tuned t) = t .semitone * 65536 + t .fraction
 
 -- from 2^24 on: no tuning
 abbrev pub tuning-of : ℕ → MaybeTuning
-tuning-of n = pick (ltb n (2 ^ 24)) (Tuned (record { semitone = n / 65536; fraction = n % 65536 })) NoTuning
+tuning-of n = pick (ltb n no-tuning) (Tuned (record { semitone = n / 65536; fraction = n % 65536 })) NoTuning
 
 -- key × 2^25 + tuning
 abbrev pub change-entry : KeyTuning → ℕ

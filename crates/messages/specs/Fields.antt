@@ -9,7 +9,8 @@ use lib.Dec.{leb, eqb, lit<, lit≤}
 use lib.ListN.{length}
 use lib.IntN.{ℤ}
 use borrow.Author.Tests.{lt-ltb, le-leb, eqb-true}
-use Rattle.util.specs.Groups.{Seven, seven}
+use Rattle.util.specs.Groups.{Seven, seven, largest}
+use Rattle.util.specs.Limits.{all-call, all-loops, least-format, most-format, most-maker, most-name, most-url}
 use Rattle.util.specs.Fields.{fits-u28}
 use Rattle.util.specs.Signed.{biased, unbiased}
 use Rattle.util.proofs.Laws.Groups.{both-true, true-seven}
@@ -22,6 +23,7 @@ use Rattle.messages.specs.declared.tuning.MaybeTuning.the-variants.{NoTu
 use Rattle.messages.specs.declared.tuning.TuningBank.the-variants.{NoBank, Bank}
 use Rattle.messages.specs.declared.«sample_dump».LoopNumber.the-variants.{Loop, RequestAll, DeleteAll}
 use Rattle.messages.specs.declared.«file_dump».FileType.the-variants.{MIDI, MIEX, ESEQ, TEXT, BIN, MAC, Custom}
+use Rattle.messages.specs.declared.«file_dump».Letters.{Letters}
 use Rattle.util.specs.Pick.{pick}
 use Rattle.messages.specs.format.{Part, Whole, unsigned, unsigned-high, unsigned-high-below, ranged, _⊗_, lit, via, _named_, refusing, such, exactly, counted, rest, all-settled, text, lookup, lookup-same}
 
@@ -45,7 +47,7 @@ u35 = unsigned 5
 
 -- "format held to 8..28"
 abbrev pub format : Part ℕ
-format = ranged 8 28 (lit≤ tt) (lit< tt)
+format = ranged least-format most-format (lit≤ tt) (lit< tt)
 
 -- "Signed 7: value + 64, held to 0..127"
 abbrev pub s7 : Part ℤ
@@ -102,26 +104,26 @@ flags = via two-bits bits-of (ranged 0 3 (lit≤ tt) (lit< tt)) bits-of-two
 
 abbrev pub device-byte : DeviceID → ℕ
 device-byte (Device n) = n
-device-byte AllCall = 127
+device-byte AllCall = all-call
 
 abbrev pub device-of : ℕ → DeviceID
-device-of v = pick (eqb v 127) AllCall (Device v)
+device-of v = pick (eqb v all-call) AllCall (Device v)
 
-pub device-same : (v : ℕ) (t : Bool) → eqb v 127 ≡ t → device-byte (pick t AllCall (Device v)) ≡ v
-device-same v true e = sym (eqb-true v 127 e)
+pub device-same : (v : ℕ) (t : Bool) → eqb v all-call ≡ t → device-byte (pick t AllCall (Device v)) ≡ v
+device-same v true e = sym (eqb-true v all-call e)
 device-same v false e = refl
 
 abbrev pub device : Part DeviceID
-device = via device-byte device-of u7 (λ v h. device-same v (eqb v 127) refl)
+device = via device-byte device-of u7 (λ v h. device-same v (eqb v all-call) refl)
 
 -- ---- a tuning: "semitone (u7), then a 14-bit fraction, HIGH group first. No tuning is 7F 7F 7F"; settled: "no tuning for 7F 7F 7F"
 
 abbrev pub semitone-fraction : MaybeTuning → ℕ × ℕ
-semitone-fraction NoTuning = (127, 16383)
+semitone-fraction NoTuning = (largest 1, largest 2)
 semitone-fraction (Tuned t) = (t .semitone, t .fraction)
 
 abbrev pub is-none : ℕ × ℕ → Bool
-is-none x = eqb (x .0) 127 && eqb (x .1) 16383
+is-none x = eqb (x .0) (largest 1) && eqb (x .1) (largest 2)
 
 abbrev pub tuned : ℕ × ℕ → MaybeTuning
 tuned x = Tuned (record { semitone = x .0; fraction = x .1 })
@@ -131,8 +133,8 @@ tuning-named x = pick (is-none x) NoTuning (tuned x)
 
 pub tuning-same : (x : ℕ × ℕ) (t : Bool) → is-none x ≡ t → semitone-fraction (pick t NoTuning (tuned x)) ≡ x
 tuning-same x true e =
-    let z = both-true (eqb (x .0) 127) (eqb (x .1) 16383) e in
-    λ i. (sym (eqb-true (x .0) 127 (z .0)) i, sym (eqb-true (x .1) 16383 (z .1)) i)
+    let z = both-true (eqb (x .0) (largest 1)) (eqb (x .1) (largest 2)) e in
+    λ i. (sym (eqb-true (x .0) (largest 1) (z .0)) i, sym (eqb-true (x .1) (largest 2) (z .1)) i)
 tuning-same x false e = refl
 
 abbrev pub tuning : Part MaybeTuning
@@ -150,15 +152,15 @@ bank-or-none = via bank-number Bank u7 (λ v h. refl)
 
 abbrev pub loop-value : LoopNumber → ℕ
 loop-value (Loop n) = n
-loop-value RequestAll = 16383
-loop-value DeleteAll = 16383
+loop-value RequestAll = all-loops
+loop-value DeleteAll = all-loops
 
-pub loop-same : (all : LoopNumber) → loop-value all ≡ 16383 → (v : ℕ) (t : Bool) → eqb v 16383 ≡ t → loop-value (pick t all (Loop v)) ≡ v
-loop-same all e v true h = e ∙ sym (eqb-true v 16383 h)
+pub loop-same : (all : LoopNumber) → loop-value all ≡ all-loops → (v : ℕ) (t : Bool) → eqb v all-loops ≡ t → loop-value (pick t all (Loop v)) ≡ v
+loop-same all e v true h = e ∙ sym (eqb-true v all-loops h)
 loop-same all e v false h = refl
 
-abbrev pub loop-number : (all : LoopNumber) → loop-value all ≡ 16383 → Part LoopNumber
-loop-number all e = via loop-value (λ v. pick (eqb v 16383) all (Loop v)) u14 (λ v h. loop-same all e v (eqb v 16383) refl)
+abbrev pub loop-number : (all : LoopNumber) → loop-value all ≡ all-loops → Part LoopNumber
+loop-number all e = via loop-value (λ v. pick (eqb v all-loops) all (Loop v)) u14 (λ v h. loop-same all e v (eqb v all-loops) refl)
 
 abbrev pub loop-requested : Part LoopNumber
 loop-requested = loop-number RequestAll refl
@@ -171,11 +173,11 @@ loop-transmitted = loop-number DeleteAll refl
 abbrev pub zero-then : {A : Type 0} → Part A → Part A
 zero-then p = lit (0 ∷ []) (lit< tt, tt) p
 
-pub maker-fine : (v : ℕ) → (1 ≤ v) × (v ≤ 124) → unless Value (leb 1 v) ≡ none
+pub maker-fine : (v : ℕ) → (1 ≤ v) × (v ≤ most-maker) → unless Value (leb 1 v) ≡ none
 maker-fine v h = ap (unless Value) (le-leb 1 v (h .0))
 
 abbrev pub one-byte-maker : Part ℕ
-one-byte-maker = refusing (λ v. unless Value (leb 1 v)) (ranged 1 124 (lit≤ tt) (lit< tt)) maker-fine
+one-byte-maker = refusing (λ v. unless Value (leb 1 v)) (ranged 1 most-maker (lit≤ tt) (lit< tt)) maker-fine
 
 abbrev pub extended-maker : Part (ℕ × ℕ)
 extended-maker = zero-then (u7 ⊗ u7)
@@ -184,6 +186,13 @@ extended-maker = zero-then (u7 ⊗ u7)
 
 abbrev pub Four : Type 0
 Four = ℕ × (ℕ × (ℕ × ℕ))
+
+-- four letters of the code
+abbrev pub four : Letters → Four
+four x = (x .first, (x .second, (x .third, x .fourth)))
+
+abbrev pub bytes-of : Four → List ℕ
+bytes-of x = x .0 ∷ x .1 .0 ∷ x .1 .1 .0 ∷ x .1 .1 .1 ∷ []
 
 abbrev pub type-chars : FileType → Four
 type-chars MIDI = (0x4D, (0x49, (0x44, 0x49)))
@@ -214,7 +223,7 @@ abbrev pub type-of : Four → FileType
 type-of x = lookup same-four type-chars custom-type named-types x
 
 abbrev pub type-bytes : FileType → List ℕ
-type-bytes t = type-chars t .0 ∷ type-chars t .1 .0 ∷ type-chars t .1 .1 .0 ∷ type-chars t .1 .1 .1 ∷ []
+type-bytes t = bytes-of (type-chars t)
 
 abbrev pub type-letters : Part FileType
 type-letters =
@@ -248,12 +257,9 @@ abbrev pub sample-name : Part (List ℕ)
 sample-name = refusing high (counted u7) (λ l h. high-fine l (h .1))
 
 -- LONG: "file name above 1,024"
-abbrev pub most-name : ℕ
-most-name = 1024
-
 abbrev pub file-name : Whole (List ℕ)
 file-name = such Long (λ l. leb (length l) most-name) rest (λ l h. h)
 
 -- "URL (first 260 bytes), 00"
 abbrev pub url : Part (List ℕ)
-url = text 260
+url = text most-url

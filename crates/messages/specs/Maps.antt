@@ -12,7 +12,7 @@ use Rattle.messages.specs.Types.{SoundFileMap, WAVMap, FileReferenceType
 use Rattle.util.specs.declared.refusal.Refusal.the-variants.{Kind}
 use Rattle.messages.specs.declared.«file_reference».FileReferenceType.the-variants.{DLS, SF2, WAV}
 use Rattle.messages.specs.format.{Part, Whole, _⊗_, _⊗w_, end, lit, Tag, tagged, choose, Names, _named_, _namedW_, Either, left, right, either, never, other-length, counted, all-bytes}
-use Rattle.messages.specs.Fields.{u7, u14, s14, flag, flags, url}
+use Rattle.messages.specs.Fields.{Four, bytes-of, u7, u14, s14, flag, flags, url}
 
 -- ---- one bank map, one WAV map, an offset
 
@@ -156,10 +156,13 @@ select-length (wavSelect x) = wav-length x
 
 -- ---- type, URL, 00
 
+abbrev pub reference-letters : FileReferenceType → Four
+reference-letters DLS = (0x44, (0x4C, (0x53, 0x20)))
+reference-letters SF2 = (0x53, (0x46, (0x32, 0x20)))
+reference-letters WAV = (0x57, (0x41, (0x56, 0x20)))
+
 abbrev pub reference-code : FileReferenceType → List ℕ
-reference-code DLS = 0x44 ∷ 0x4C ∷ 0x53 ∷ 0x20 ∷ []
-reference-code SF2 = 0x53 ∷ 0x46 ∷ 0x32 ∷ 0x20 ∷ []
-reference-code WAV = 0x57 ∷ 0x41 ∷ 0x56 ∷ 0x20 ∷ []
+reference-code t = bytes-of (reference-letters t)
 
 -- "type "DLS ", "SF2 " or "WAV ""
 abbrev pub reference-types : Tag FileReferenceType

@@ -8,6 +8,8 @@ use lib.Dec.{leb, lit<}
 use lib.ListN.{length}
 use borrow.Author.Tests.{le-leb}
 use Rattle.util.specs.Options.{unless}
+use Rattle.util.specs.Limits.{sample-bytes, most-changes}
+use Rattle.util.specs.Limits as limits
 use Rattle.messages.specs.Types.{LoopType, ExtendedLoopType, MaybeTuning, KeyTuning, Scale1Byte, Scale2Byte, IdentityReply, SoftwareRevision, ManufacturerID}
 use Rattle.util.specs.declared.refusal.Refusal.the-variants.{Long}
 use Rattle.messages.specs.declared.«sample_dump».LoopType.the-variants.{Forward, BiDirectional, Off}
@@ -19,11 +21,11 @@ use Rattle.messages.specs.Fields.{u7, u14, s7, s14, tuning, one-byte-mak
 
 -- "120 bytes (u7 each, zero-filled, surplus dropped)"
 abbrev pub samples : Part (List ℕ)
-samples = exactly u7 120 (λ i. 0) (λ i. refl)
+samples = exactly u7 sample-bytes (λ i. 0) (λ i. refl)
 
 -- "128 tunings": "Entry i past the given list is i, 00, 00; entries past 128 are ignored"
 abbrev pub keys : Part (List MaybeTuning)
-keys = exactly tuning 128 (λ i. Tuned (record { semitone = i; fraction = 0 })) (λ i. refl)
+keys = exactly tuning limits.keys (λ i. Tuned (record { semitone = i; fraction = 0 })) (λ i. refl)
 
 -- "each a key (u7) and a tuning"
 abbrev pub key-tuning : Part KeyTuning
@@ -37,9 +39,6 @@ key-tuning =
     }
 
 -- LONG: "note change above 127 entries"
-abbrev pub most-changes : ℕ
-most-changes = 127
-
 pub changes-fine : (l : List KeyTuning) → (length l < 128) × all-settled key-tuning l → unless Long (leb (length l) most-changes) ≡ none
 changes-fine l h = rw (le-leb (length l) most-changes (omega arith))
 
@@ -120,10 +119,13 @@ identity-reply =
     }
 
 -- "loop type 00, 01, 7F"
+abbrev pub loop-byte : LoopType → ℕ
+loop-byte Forward = 0x00
+loop-byte BiDirectional = 0x01
+loop-byte Off = 0x7F
+
 abbrev pub loop-code : LoopType → List ℕ
-loop-code Forward = 0x00 ∷ []
-loop-code BiDirectional = 0x01 ∷ []
-loop-code Off = 0x7F ∷ []
+loop-code t = loop-byte t ∷ []
 
 abbrev pub loop-type : Part LoopType
 loop-type =
@@ -135,17 +137,20 @@ loop-type =
     }
 
 -- "Extended types: 00 to 03, 40 to 43, 7E, 7F"
+abbrev pub extended-loop-byte : ExtendedLoopType → ℕ
+extended-loop-byte ext.Forward = 0x00
+extended-loop-byte ext.BiDirectional = 0x01
+extended-loop-byte ext.ForwardRelease = 0x02
+extended-loop-byte ext.BiDirectionalRelease = 0x03
+extended-loop-byte ext.Backward = 0x40
+extended-loop-byte ext.BackwardBiDirectional = 0x41
+extended-loop-byte ext.BackwardRelease = 0x42
+extended-loop-byte ext.BackwardBiDirectionalRelease = 0x43
+extended-loop-byte ext.BackwardOneShot = 0x7E
+extended-loop-byte ext.OneShot = 0x7F
+
 abbrev pub extended-loop-code : ExtendedLoopType → List ℕ
-extended-loop-code ext.Forward = 0x00 ∷ []
-extended-loop-code ext.BiDirectional = 0x01 ∷ []
-extended-loop-code ext.ForwardRelease = 0x02 ∷ []
-extended-loop-code ext.BiDirectionalRelease = 0x03 ∷ []
-extended-loop-code ext.Backward = 0x40 ∷ []
-extended-loop-code ext.BackwardBiDirectional = 0x41 ∷ []
-extended-loop-code ext.BackwardRelease = 0x42 ∷ []
-extended-loop-code ext.BackwardBiDirectionalRelease = 0x43 ∷ []
-extended-loop-code ext.BackwardOneShot = 0x7E ∷ []
-extended-loop-code ext.OneShot = 0x7F ∷ []
+extended-loop-code t = extended-loop-byte t ∷ []
 
 abbrev pub extended-loop-type : Part ExtendedLoopType
 extended-loop-type =

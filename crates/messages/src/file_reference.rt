@@ -1,6 +1,10 @@
 // File references (CA-018, CA-028). The URL is lent beside these as text, the maps of a sound file as entries.
+use super::file_dump::Letters;
+use super::file_dump::letters_of;
 use super::head::Head;
 ghost use mathlib.Core.Path.{_≡_};
+ghost use Rattle.messages.specs.Fields.{four};
+ghost use Rattle.messages.specs.Maps.{reference-letters};
 ghost use Rattle.messages.specs.Maps.{default-sound-file-map, default-wav-map};
 ghost use Rattle.messages.specs.Entries.{map-entry, map-of};
 ghost use Rattle.messages.specs.Fields.{bit};
@@ -16,6 +20,17 @@ pub enum FileReferenceType {
     DLS,
     SF2,
     WAV,
+}
+
+// The four letters of a file reference type.
+pub fn reference_letters(t: FileReferenceType) -> Letters
+    ensures { λ r. ⌜ four r ≡ reference-letters t ⌝ }
+{
+    match t {
+        FileReferenceType::DLS => letters_of(b'D', b'L', b'S', b' '),
+        FileReferenceType::SF2 => letters_of(b'S', b'F', b'2', b' '),
+        FileReferenceType::WAV => letters_of(b'W', b'A', b'V', b' '),
+    }
 }
 
 // A flag as a bit.

@@ -1,8 +1,13 @@
 // Sample dumps and extended sample dumps (CA-019). Sample bytes and names are lent beside these.
 use super::head::Head;
 use rates::SplitAnswer;
+use util::limits::ALL_LOOPS;
 use util::refusal::Refusal;
 ghost use mathlib.Core.Path.{_≡_};
+ghost use Prim.Native.Nat.{_%_};
+ghost use Rattle.messages.specs.declared.«sample_dump».SampleDumpMsg.the-variants.{Packet};
+ghost use Rattle.messages.specs.Fields.{loop-value};
+ghost use Rattle.messages.specs.Structures.{loop-byte, extended-loop-byte};
 ghost use Rattle.messages.specs.MessageOf.{head-sample, head-extended};
 ghost use Rattle.messages.specs.Header.{header-of};
 
@@ -94,6 +99,46 @@ pub enum ExtendedSampleDumpMsg {
     },
 }
 
+// The byte of a loop type.
+pub fn loop_byte(t: LoopType) -> u64
+    ensures { λ r. ⌜ r ≡ loop-byte t ⌝ }
+{
+    match t {
+        LoopType::Forward => 0,
+        LoopType::BiDirectional => 1,
+        LoopType::Off => 0x7F,
+    }
+}
+
+// The byte of an extended loop type.
+pub fn extended_loop_byte(t: ExtendedLoopType) -> u64
+    ensures { λ r. ⌜ r ≡ extended-loop-byte t ⌝ }
+{
+    match t {
+        ExtendedLoopType::Forward => 0,
+        ExtendedLoopType::BiDirectional => 1,
+        ExtendedLoopType::ForwardRelease => 2,
+        ExtendedLoopType::BiDirectionalRelease => 3,
+        ExtendedLoopType::Backward => 0x40,
+        ExtendedLoopType::BackwardBiDirectional => 0x41,
+        ExtendedLoopType::BackwardRelease => 0x42,
+        ExtendedLoopType::BackwardBiDirectionalRelease => 0x43,
+        ExtendedLoopType::BackwardOneShot => 0x7E,
+        ExtendedLoopType::OneShot => 0x7F,
+    }
+}
+
+// The number of a loop; all loops are 16,383.
+pub fn loop_value(i: LoopNumber) -> u64
+    ensures { λ r. ⌜ r ≡ loop-value i ⌝ }
+{
+    match i {
+        LoopNumber::Loop(n) => n as u64,
+        LoopNumber::RequestAll => ALL_LOOPS as u64,
+        LoopNumber::DeleteAll => ALL_LOOPS as u64,
+    }
+}
+
 // An extended header; or a refusal.
 pub enum HeaderAnswer {
     Message(ExtendedSampleDumpMsg),
@@ -111,6 +156,15 @@ impl SampleDumpMsg {
             SampleDumpMsg::Request { .. } => Head::SampleDumpRequest,
             SampleDumpMsg::LoopPointTransmission { .. } => Head::LoopPointTransmission,
             SampleDumpMsg::LoopPointsRequest { .. } => Head::LoopPointsRequest,
+        }
+    }
+
+    // The packet of a number that is counted round 128; its sample bytes are lent beside it.
+    pub fn packet(num: u32) -> Self
+        ensures { λ r. ⌜ r ≡ Packet (num % 128) ⌝ }
+    {
+        SampleDumpMsg::Packet {
+            running_count: (num % 128) as u8,
         }
     }
 }

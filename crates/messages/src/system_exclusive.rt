@@ -14,10 +14,17 @@ use super::tuning::TuningBank;
 use super::tuning::TuningNoteChange;
 use util::bytes::is_seven;
 use util::groups::at;
+use util::groups::hold;
 use util::groups::u14_at;
+use util::limits::ALL_CALL;
+use util::limits::LARGEST_U7;
+use util::limits::LARGEST_U14;
 use util::refusal::Refusal;
 ghost use mathlib.Core.Path.{_≡_};
+ghost use mathlib.Core.List.{_++_};
 ghost use Prim.Native.Nat.{_≤_};
+ghost use Rattle.util.specs.Groups.{groups, held};
+ghost use Rattle.messages.specs.Fields.{device-byte, device-of};
 ghost use Rattle.messages.specs.Structures.{reply};
 ghost use Rattle.messages.specs.MessageOf.{headOf, head-request, head-keys};
 ghost use Rattle.messages.specs.Identity.{first-of, numbers-from, rows-after-maker, rows-of-maker, reply-in, identityOf};
@@ -25,6 +32,27 @@ ghost use Rattle.messages.specs.Identity.{first-of, numbers-from, rows-a
 pub enum DeviceID {
     Device(u8),
     AllCall,
+}
+
+// The byte of a device.
+pub fn device_byte(d: DeviceID) -> u64
+    ensures { λ r. ⌜ r ≡ device-byte d ⌝ }
+{
+    match d {
+        DeviceID::Device(n) => n as u64,
+        DeviceID::AllCall => ALL_CALL as u64,
+    }
+}
+
+// The device of a byte.
+pub fn device_of(b: u8) -> DeviceID
+    ensures { λ r. ⌜ r ≡ device-of b ⌝ }
+{
+    if b == ALL_CALL {
+        DeviceID::AllCall
+    } else {
+        DeviceID::Device(b)
+    }
 }
 
 // A maker's number of one byte, or of 00 and two bytes.
@@ -45,6 +73,22 @@ pub struct IdentityReply {
     pub family: u16,
     pub family_member: u16,
     pub software_revision: SoftwareRevision,
+}
+
+impl IdentityReply {
+    // The family and the member as bytes, the low group first: as instruments print them.
+    pub fn family_as_bytes(self) -> [u8; 4]
+        ensures { λ r. ⌜ r ≡ groups 2 (held 2 (self .family)) ++ groups 2 (held 2 (self .«family_member»)) ⌝ }
+    {
+        let f = hold(self.family as u64, LARGEST_U14);
+        let m = hold(self.family_member as u64, LARGEST_U14);
+        [
+            (f % 128) as u8,
+            (f / 128 % 128) as u8,
+            (m % 128) as u8,
+            (m / 128 % 128) as u8,
+        ]
+    }
 }
 
 // What identity reading answers: the reply, or a refusal.
@@ -140,7 +184,7 @@ fn read_maker(m: &[u8]) -> IdentityReading
         return IdentityReading::Refused(Refusal::UnexpectedEnd);
     }
     let b = m[2];
-    if 127 < b {
+    if LARGEST_U7 < b {
         return IdentityReading::Refused(Refusal::ByteOverflow);
     }
     if b != 0 {
@@ -150,11 +194,11 @@ fn read_maker(m: &[u8]) -> IdentityReading
         return IdentityReading::Refused(Refusal::UnexpectedEnd);
     }
     let first = m[3];
-    if 127 < first {
+    if LARGEST_U7 < first {
         return IdentityReading::Refused(Refusal::ByteOverflow);
     }
     let second = m[4];
-    if 127 < second {
+    if LARGEST_U7 < second {
         return IdentityReading::Refused(Refusal::ByteOverflow);
     }
     read_after_maker(m, ManufacturerID::Extended(first, second), 5)

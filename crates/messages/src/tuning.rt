@@ -1,5 +1,7 @@
 // Tunings. Names are lent beside these as text, tunings of keys as entries.
+use util::limits::NO_TUNING;
 ghost use mathlib.Core.Path.{_≡_};
+ghost use Rattle.messages.specs.Fields.{bank-number};
 ghost use Rattle.messages.specs.Entries.{tuning-entry, tuning-of, change-entry, change-of};
 ghost use Rattle.util.specs.Channels.{how-many, lowest};
 
@@ -20,7 +22,7 @@ impl MaybeTuning {
         ensures { λ r. ⌜ r ≡ tuning-entry self ⌝ }
     {
         match self {
-            MaybeTuning::NoTuning => 16777216,
+            MaybeTuning::NoTuning => NO_TUNING,
             MaybeTuning::Tuned(t) => t.semitone as u64 * 65536 + t.fraction as u64,
         }
     }
@@ -29,7 +31,7 @@ impl MaybeTuning {
     pub fn from_entry(entry: u64) -> Self
         ensures { λ r. ⌜ r ≡ tuning-of entry ⌝ }
     {
-        if entry < 16777216 {
+        if entry < NO_TUNING {
             MaybeTuning::Tuned(Tuning {
                 semitone: (entry / 65536) as u8,
                 fraction: (entry % 65536) as u16,
@@ -69,6 +71,16 @@ impl KeyTuning {
 pub enum TuningBank {
     NoBank,
     Bank(u8),
+}
+
+// The number of a bank; no bank is 0.
+pub fn bank_number(bank: TuningBank) -> u64
+    ensures { λ r. ⌜ r ≡ bank-number bank ⌝ }
+{
+    match bank {
+        TuningBank::NoBank => 0,
+        TuningBank::Bank(n) => n as u64,
+    }
 }
 
 // The adjustments of the twelve semitones, in cents: the crate's `[i8; 12]`.

@@ -16,7 +16,7 @@ use Rattle.messages.specs.declared.«sample_dump».LoopType.{LoopType}
 use Rattle.messages.specs.declared.«sample_dump».ExtendedLoopType.{ExtendedLoopType}
 use Rattle.messages.specs.declared.«sample_dump».LoopType.the-variants as loop
 use Rattle.messages.specs.declared.«sample_dump».ExtendedLoopType.the-variants as ext
-use Rattle.write_fronts.specs.Fronts.{loop-byte, extended-loop-byte}
+use Rattle.messages.specs.Structures.{loop-byte, extended-loop-byte}
 use Rattle.numbers_of_message.specs.Put.{Put}
 use Rattle.numbers_to_message.specs.Values.{signed-number-of, loop-number-of, extended-loop-number-of}
 

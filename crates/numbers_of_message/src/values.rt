@@ -1,6 +1,6 @@
 // Values that are no numbers, as numbers.
-use write_fronts::values::type_letters;
 use messages::file_dump::FileType;
+use messages::file_dump::type_letters;
 use messages::file_reference::FileReferenceType;
 use messages::sample_dump::LoopNumber;
 use messages::system_exclusive::DeviceID;

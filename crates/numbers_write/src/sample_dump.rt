@@ -34,7 +34,7 @@ fn put_header(
 {
     out[0] = 0xF0;
     let f = write_fronts::values::clamp(format as u64, 8, 28);
-    let t = write_fronts::values::loop_byte(kind);
+    let t = messages::sample_dump::loop_byte(kind);
     write_fronts::sample_dump::put_header(
         &mut out[1..],
         d,
@@ -73,7 +73,7 @@ pub fn write_header(
     if out.len() - place < 21 {
         return Written::Refused(Refusal::Space);
     }
-    let d = write_fronts::values::device_byte(device);
+    let d = messages::system_exclusive::device_byte(device);
     put_header(
         &mut out[place..],
         d,
@@ -118,7 +118,7 @@ pub fn write_packet(
     if out.len() - place < 127 {
         return Written::Refused(Refusal::Space);
     }
-    let d = write_fronts::values::device_byte(device);
+    let d = messages::system_exclusive::device_byte(device);
     put_packet(&mut out[place..], d, count, text);
     Written::Frame(127)
 }

@@ -40,7 +40,7 @@ pub fn write_scale_dump_2(
     if out.len() - place < 49 {
         return Written::Refused(Refusal::Space);
     }
-    let d = write_fronts::values::device_byte(device);
+    let d = messages::system_exclusive::device_byte(device);
     put_scale_dump_2(&mut out[place..], d, bank, program, s, text);
     Written::Frame(49)
 }

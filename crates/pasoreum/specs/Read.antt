@@ -1,4 +1,4 @@
--- What reading answers in numbers: as `read_numbers` does, or 65 for a kind that is neither, or 66 for an answer of fewer than 20 places.
+-- What reading answers in numbers: as `numbers_read` does, or 65 for a kind that is neither, or 66 for an answer of fewer than 20 places.
 use mathlib.Core.Path.{_≡_}
 use mathlib.Core.Bool.{Bool, true, false}
 use mathlib.Core.List.{List}

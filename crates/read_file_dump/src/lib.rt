@@ -7,6 +7,8 @@ use messages::file_dump::FileType;
 use messages::system_exclusive::DeviceID;
 use messages::system_exclusive::UniversalNonRealTimeMsg;
 use read_places::Found;
+use util::limits::MOST_DATA;
+use util::limits::MOST_NAME;
 ghost use mathlib.Core.Path.{_≡_};
 ghost use Prim.Native.Nat.{_≤_};
 ghost use lib.ListN.{length};
@@ -18,11 +20,6 @@ ghost use Rattle.messages.specs.declared.«system_exclusive».UniversalNonRealT
 ghost use Rattle.read_places.specs.Places.{data-at};
 ghost use Rattle.read_places.specs.Found.{Reads};
 ghost use Rattle.read_places.specs.declared.Found.the-variants as found;
-
-// The most bytes of a file name, and the most data bytes of a packet.
-const MOST_NAME: usize = 1024;
-
-const MOST_DATA: usize = 111;
 
 // A file header: sender device, type, length, and a name of at most 1,024 bytes.
 pub fn header(f: &[u8]) -> Found
@@ -36,7 +33,7 @@ pub fn header(f: &[u8]) -> Found
     if MOST_NAME < n {
         return Found::Nothing;
     }
-    let sender_device = read_places::device_of(util::groups::u7_at(f, 0));
+    let sender_device = messages::system_exclusive::device_of(util::groups::u7_at(f, 0));
     let file_type = fields::type_at(f);
     let length = util::groups::u28_at(f, 5);
     header_of(sender_device, file_type, length, n)
@@ -71,7 +68,7 @@ pub fn request(f: &[u8]) -> Found
     if MOST_NAME < n {
         return Found::Nothing;
     }
-    let requester_device = read_places::device_of(util::groups::u7_at(f, 0));
+    let requester_device = messages::system_exclusive::device_of(util::groups::u7_at(f, 0));
     let file_type = fields::type_at(f);
     request_of(requester_device, file_type, n)
 }

@@ -7,6 +7,7 @@ use messages::system_exclusive::UniversalNonRealTimeMsg;
 use read_places::Found;
 use util::groups::at;
 use util::groups::u14_at;
+use util::limits::MOST_URL;
 ghost use mathlib.Core.Path.{_≡_};
 ghost use Prim.Native.Nat.{_+_, _≤_};
 ghost use lib.ListN.{length, drop};
@@ -23,8 +24,8 @@ ghost use Rattle.read_file_reference.specs.Picked.{Picks};
 mod maps;
 mod texts;
 
-// Where a URL of 260 bytes ends.
-const LAST_END: usize = 268;
+// Where the longest URL ends.
+const LAST_END: usize = 8 + MOST_URL;
 
 // 0B 04 close.
 pub fn close(f: &[u8]) -> Found

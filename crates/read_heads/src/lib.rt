@@ -1,8 +1,8 @@
 // The fields under a head.
 use messages::head::Head;
+use read_places::Found;
 use read_sample_dump::extended_sample_dump;
 use read_sample_dump::sample_dump;
-use read_places::Found;
 ghost use mathlib.Core.Path.{_≡_};
 ghost use Rattle.util.specs.Groups.{Seven};
 ghost use Rattle.messages.specs.Layouts.{form};

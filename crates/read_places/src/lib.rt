@@ -20,17 +20,6 @@ pub enum Found {
     Nothing,
 }
 
-// The device of a byte.
-pub fn device_of(b: u8) -> DeviceID
-    ensures { λ r. ⌜ r ≡ device-of b ⌝ }
-{
-    if b == 127 {
-        DeviceID::AllCall
-    } else {
-        DeviceID::Device(b)
-    }
-}
-
 // A byte as a number of places.
 pub fn wide(b: u8) -> usize
     ensures { λ r. ⌜ (r ≡ b) × (r ≤ 255) ⌝ }

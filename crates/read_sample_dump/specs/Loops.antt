@@ -3,6 +3,7 @@ use mathlib.Core.Path.{_≡_}
 use mathlib.Core.List.{[], _∷_}
 use Prim.Native.Nat.{ℕ}
 use lib.Dec.{eqb}
+use Rattle.util.specs.Limits.{all-loops}
 use Rattle.util.specs.Pick.{pick}
 use Rattle.messages.specs.declared.«sample_dump».LoopType.{LoopType}
 use Rattle.messages.specs.declared.«sample_dump».ExtendedLoopType.{ExtendedLoopType}
@@ -25,4 +26,4 @@ NamesExtended b extended.Nothing = (t : ExtendedLoopType) → extended-loop-code
 
 -- settled: "loop number 16,383 is "all" (request all in 05 02 and 05 07, delete all in 05 01 and 05 06)"
 abbrev pub loop-number-of : LoopNumber → ℕ → LoopNumber
-loop-number-of all v = pick (eqb v 16383) all (Loop v)
+loop-number-of all v = pick (eqb v all-loops) all (Loop v)

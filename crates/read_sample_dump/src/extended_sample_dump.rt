@@ -12,10 +12,13 @@ use util::groups::u7_at;
 use util::groups::u14_at;
 use util::groups::u28_at;
 use util::groups::u35_at;
+use util::limits::LEAST_FORMAT;
+use util::limits::MOST_FORMAT;
 ghost use mathlib.Core.Path.{_≡_};
 ghost use mathlib.Core.List.{_∷_, []};
 ghost use Prim.Native.Nat.{_≤_};
 ghost use lib.ListN.{length, getD};
+ghost use Rattle.util.specs.Limits.{least-format, most-format};
 ghost use Rattle.util.specs.Groups.{Seven};
 ghost use Rattle.messages.specs.declared.head.Head.the-variants as head;
 ghost use Rattle.messages.specs.Structures.{extended-loop-code};
@@ -75,10 +78,10 @@ pub fn extended_header(f: &[u8]) -> Found
         return Found::Nothing;
     }
     let format = at(f, 2);
-    if format < 8 {
+    if format < LEAST_FORMAT {
         return Found::Nothing;
     }
-    if 28 < format {
+    if MOST_FORMAT < format {
         return Found::Nothing;
     }
     let named = extended_loop_type(at(f, 26));
@@ -90,7 +93,7 @@ pub fn extended_header(f: &[u8]) -> Found
 
 // The extended header of 28 bytes with a format in its range and loop type t.
 fn extended_header_of(f: &[u8], t: ExtendedLoopType) -> Found
-    requires { ⌜ Seven (now f) × (length (now f) ≡ 28) × (8 ≤ getD (now f) 2 0) × (getD (now f) 2 0 ≤ 28) × (extended-loop-code t ≡ getD (now f) 26 0 ∷ []) ⌝ }
+    requires { ⌜ Seven (now f) × (length (now f) ≡ 28) × (least-format ≤ getD (now f) 2 0) × (getD (now f) 2 0 ≤ most-format) × (extended-loop-code t ≡ getD (now f) 26 0 ∷ []) ⌝ }
     ensures { λ r. ⌜ Reads head.ExtendedHeader r (now (f .entry)) ⌝ }
 {
     Found::Is {

@@ -2,6 +2,7 @@
 use messages::sample_dump::ExtendedLoopType;
 use messages::sample_dump::LoopNumber;
 use messages::sample_dump::LoopType;
+use util::limits::ALL_LOOPS;
 ghost use mathlib.Core.Path.{_≡_};
 ghost use Rattle.read_sample_dump.specs.Loops.{Names, NamesExtended, loop-number-of};
 
@@ -52,7 +53,7 @@ pub fn extended_loop_type(b: u8) -> ExtendedLoopTypeNamed
 pub fn loop_number(v: u16, all: LoopNumber) -> LoopNumber
     ensures { λ r. ⌜ r ≡ loop-number-of all v ⌝ }
 {
-    if v == 16383 {
+    if v == ALL_LOOPS {
         return all;
     }
     LoopNumber::Loop(v)

@@ -11,10 +11,14 @@ use util::groups::at;
 use util::groups::u7_at;
 use util::groups::u14_at;
 use util::groups::u21_at;
+use util::limits::LEAST_FORMAT;
+use util::limits::MOST_FORMAT;
+use util::limits::SAMPLE_BYTES;
 ghost use mathlib.Core.Path.{_≡_};
 ghost use mathlib.Core.List.{_∷_, []};
 ghost use Prim.Native.Nat.{_≤_};
 ghost use lib.ListN.{length, getD};
+ghost use Rattle.util.specs.Limits.{least-format, most-format};
 ghost use Rattle.util.specs.Groups.{Seven};
 ghost use Rattle.messages.specs.declared.head.Head.the-variants as head;
 ghost use Rattle.messages.specs.Structures.{loop-code};
@@ -30,10 +34,10 @@ pub fn header(f: &[u8]) -> Found
         return Found::Nothing;
     }
     let format = at(f, 2);
-    if format < 8 {
+    if format < LEAST_FORMAT {
         return Found::Nothing;
     }
-    if 28 < format {
+    if MOST_FORMAT < format {
         return Found::Nothing;
     }
     let named = loop_type(at(f, 15));
@@ -45,7 +49,7 @@ pub fn header(f: &[u8]) -> Found
 
 // The header of 16 bytes with a format in its range and loop type t.
 fn header_of(f: &[u8], t: LoopType) -> Found
-    requires { ⌜ Seven (now f) × (length (now f) ≡ 16) × (8 ≤ getD (now f) 2 0) × (getD (now f) 2 0 ≤ 28) × (loop-code t ≡ getD (now f) 15 0 ∷ []) ⌝ }
+    requires { ⌜ Seven (now f) × (length (now f) ≡ 16) × (least-format ≤ getD (now f) 2 0) × (getD (now f) 2 0 ≤ most-format) × (loop-code t ≡ getD (now f) 15 0 ∷ []) ⌝ }
     ensures { λ r. ⌜ Reads head.SampleDumpHeader r (now (f .entry)) ⌝ }
 {
     Found::Is {
@@ -73,10 +77,10 @@ pub fn is_header(f: &[u8]) -> bool
     if f.len() != 16 {
         return false;
     }
-    if f[2] < 8 {
+    if f[2] < LEAST_FORMAT {
         return false;
     }
-    if 28 < f[2] {
+    if MOST_FORMAT < f[2] {
         return false;
     }
     if f[15] < 2 {
@@ -90,7 +94,7 @@ pub fn packet(f: &[u8]) -> Found
     requires { ⌜ Seven (now f) ⌝ }
     ensures { λ r. ⌜ Reads head.SampleDumpPacket r (now (f .entry)) ⌝ }
 {
-    if f.len() != 121 {
+    if f.len() != 1 + SAMPLE_BYTES {
         return Found::Nothing;
     }
     Found::Is {
@@ -98,7 +102,7 @@ pub fn packet(f: &[u8]) -> Found
             running_count: u7_at(f, 0),
         }),
         from: 1,
-        len: 120,
+        len: SAMPLE_BYTES,
         at: 0,
         count: 0,
     }

@@ -9,6 +9,7 @@ use native.Mathlib.Omega.{arith}
 use lib.Dec.{lit<, lit≤, eqb}
 use lib.ListN.{length, drop, getD}
 use borrow.Author.Tests.{eqb-true}
+use Rattle.util.specs.Limits.{most-maker}
 use Rattle.util.specs.Groups.{Seven}
 use Rattle.util.proofs.Laws.Options.{not-some}
 use Rattle.messages.specs.declared.head.Head.{Head}
@@ -85,11 +86,11 @@ one-byte = end (one-byte-maker ⊗ after-maker)
 abbrev extended : Whole ((ℕ × ℕ) × AfterMaker)
 extended = end (extended-maker ⊗ after-maker)
 
-pub one-byte-reads : (f : List ℕ) → Seven f → length f ≡ 9 → 1 ≤ getD f 0 0 → getD f 0 0 ≤ 124
+pub one-byte-reads : (f : List ℕ) → Seven f → length f ≡ 9 → 1 ≤ getD f 0 0 → getD f 0 0 ≤ most-maker
     → form head.IdentityReply .read f ≡ some (reply (OneByte (getD f 0 0)) (after-maker-at f 1))
 one-byte-reads f s n p q =
     rw (
-      range-at 1 124 (lit≤ tt) (lit< tt) f 0 (omega arith) p q,
+      range-at 1 most-maker (lit≤ tt) (lit< tt) f 0 (omega arith) p q,
       unsigned-at f s 2 1 (omega arith),
       unsigned-at f s 2 3 (omega arith),
       unsigned-at f s 1 5 (omega arith),
@@ -103,7 +104,7 @@ one-byte-reads f s n p q =
 pub one-byte-size : (f : List ℕ) → (length f ≡ 9 → ⊥) → one-byte .read f ≡ none
 one-byte-size f k = other-length one-byte 9 (λ a. refl) f k
 
-pub one-byte-maker-not : (f : List ℕ) → ((1 ≤ getD f 0 0) × (getD f 0 0 ≤ 124) → ⊥) → one-byte .read f ≡ none
+pub one-byte-maker-not : (f : List ℕ) → ((1 ≤ getD f 0 0) × (getD f 0 0 ≤ most-maker) → ⊥) → one-byte .read f ≡ none
 one-byte-maker-not f k =
     not-some (one-byte .read f)
     λ a e. let w = one-byte .only f a e in

@@ -7,6 +7,7 @@ use messages::system_exclusive::UniversalNonRealTimeMsg;
 use read_places::Found;
 use util::groups::u7_at;
 use util::groups::u14_at;
+use util::limits::MOST_MAKER;
 ghost use mathlib.Core.Path.{_≡_};
 ghost use Prim.Native.Nat.{_≤_};
 ghost use lib.ListN.{length};
@@ -68,7 +69,7 @@ fn one_byte_reply(f: &[u8]) -> Found
     if maker < 1 {
         return Found::Nothing;
     }
-    if 124 < maker {
+    if MOST_MAKER < maker {
         return Found::Nothing;
     }
     reply_of(f, ManufacturerID::OneByte(maker), 1)

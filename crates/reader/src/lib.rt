@@ -55,7 +55,7 @@ fn examine_part(frame: &[u8], h: Head, start: usize, end: usize, sum: bool) -> R
 {
     let a = 1 + start;
     let e = 1 + end;
-    let device = read_places::device_of(util::groups::at(frame, 2));
+    let device = messages::system_exclusive::device_of(util::groups::at(frame, 2));
     match read_heads::fields_of(h, &frame[a..e]) {
         Found::Is {
             m,
@@ -125,19 +125,4 @@ pub fn read(frame: &[u8], kind: Kind, data: &mut [u8], entries: &mut [u64]) -> R
         ),
         Opening::Refused(n) => Reading::Refused(n),
     }
-}
-
-// The part of a frame that an answer names: len bytes from a place on, or as many as there are.
-pub fn part(frame: &[u8], from: usize, len: usize) -> &[u8]
-    ensures { λ r. ⌜ now r ≡ take len (drop from (now (frame .entry))) ⌝ }
-{
-    let n = frame.len();
-    if n < from {
-        return &frame[n..n];
-    }
-    if n - from < len {
-        return &frame[from..n];
-    }
-    let e = from + len;
-    &frame[from..e]
 }

@@ -78,7 +78,7 @@ pub fn reads_back(frame: &[u8], v: &[u64; 16], count: usize) -> bool {
             if !readings::is_numbers(device, m, &want, count) {
                 return false;
             }
-            let text = reader::part(frame, from, len);
+            let text = util::bytes::sub_slice(frame, from, len);
             is_rewritten(device, m, text, code, places, &data, &entries, frame)
         }
     }

@@ -139,7 +139,7 @@ fn is_text(
     if len != bytes.len() {
         return false;
     }
-    check::same(reader::part(frame, from, len), bytes)
+    check::same(util::bytes::sub_slice(frame, from, len), bytes)
 }
 
 // Whether both kinds of lent space are as they were.

@@ -43,7 +43,7 @@ fn compare(
 ) -> Outcome {
     match writer::write(device, m, text, entries, out, 0) {
         Written::Frame(n) => {
-            if check::same(reader::part(out, 0, n), frame) {
+            if check::same(util::bytes::sub_slice(out, 0, n), frame) {
                 Outcome::Alike
             } else {
                 Outcome::Otherwise
@@ -91,8 +91,8 @@ pub fn resend(frame: &[u8], data: &mut [u8], entries: &mut [u64], out: &mut [u8]
             frame,
             device,
             m,
-            reader::part(frame, from, len),
-            reader::part(data, 0, places),
+            util::bytes::sub_slice(frame, from, len),
+            util::bytes::sub_slice(data, 0, places),
             first(entries, places),
             out,
         ),

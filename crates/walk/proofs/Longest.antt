@@ -8,6 +8,7 @@ use native.Mathlib.Nat.{mul-zero, mul-suc}
 use native.Mathlib.Omega.{arith}
 use lib.ListN.{length, length-append}
 use borrow.Author.Tests.{leb-true}
+use Rattle.util.specs.Limits.{most-name, most-frame}
 use Rattle.util.specs.Packing.{pack}
 use Rattle.util.specs.Checksum.{checksum}
 use Rattle.messages.specs.declared.head.Head.{Head}
@@ -99,9 +100,9 @@ short head.ExtendedLoopPointTransmission f h = simp length-append (omega (arith,
 short head.ExtendedLoopPointsRequest f h = omega arith
 short head.IdentityRequest f h = omega arith
 short head.IdentityReply f h = omega (arith, reply-size (f .id) (f .family, (f .«family_member», revision (f .«software_revision»))))
-short head.FileDumpHeader f h = omega (arith, leb-true (length (f .name)) 1024 (h .1 .1 .1 .1))
+short head.FileDumpHeader f h = omega (arith, leb-true (length (f .name)) most-name (h .1 .1 .1 .1))
 short head.FileDumpPacket f h = omega (arith, pack-size 0 (f .file-data))
-short head.FileDumpRequest f h = omega (arith, leb-true (length (f .name)) 1024 (h .1 .1 .1))
+short head.FileDumpRequest f h = omega (arith, leb-true (length (f .name)) most-name (h .1 .1 .1))
 short head.TuningBulkDumpRequest f h = omega arith
 short head.KeyBasedTuningDump f h = simp length-append (omega (arith, all-size u7 1 (λ a. refl) (f .name), all-size tuning 3 (λ a. refl) (f .tunings)))
 short head.BankTuningBulkDumpRequest f h = omega arith
@@ -132,7 +133,7 @@ with-sum-size true b = length-append b (checksum b ∷ [])
 with-sum-size false b = omega arith
 
 -- F0, 7E and the device before the head, F7 after the fields
-framed-short : (m : Message) → form (m .head) .settled (m .fields) → length (framed m) ≤ 1292
+framed-short : (m : Message) → form (m .head) .settled (m .fields) → length (framed m) ≤ most-frame
 framed-short m h =
     simp (length-append, with-sum-size) (omega (arith, short (m .head) (m .fields) h))
 
@@ -143,4 +144,4 @@ pub frame-short : FrameShort
 frame-short k bs f =
     let s = f .settled .settled in
     let e = given-same (sym (f .frame) ∙ write-settled (f .message) s) in
-    subst (λ (l : List ℕ). length l ≤ 1292) (sym e) (framed-short (f .message) (settled-parts (f .message) s .1))
+    subst (λ (l : List ℕ). length l ≤ most-frame) (sym e) (framed-short (f .message) (settled-parts (f .message) s .1))

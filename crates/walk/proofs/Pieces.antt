@@ -6,6 +6,7 @@ use Prim.Native.Nat.{ℕ, _+_, _-_, _≤_, min}
 use native.Mathlib.Omega.{arith}
 use lib.ListN.{length, take, drop, length-take, length-drop}
 use lib.Seq.{drop-drop, length-take-le}
+use Rattle.util.specs.Limits.{most-frame}
 use Rattle.messages.specs.declared.«file_reference».Kind.{Kind}
 use Rattle.messages.specs.Promises.{IsFrameFor}
 use Rattle.messages.proofs.Exact.{frame-shaped}
@@ -30,7 +31,7 @@ pub piece-lists : PieceLists
 piece-lists k s p n o l c = (
   λ m.
       let f = listed-exactly k s (p + o) l .0 m in
-      let a : length (stretch s (p + o) l) ≤ 1292 = frame-short k (stretch s (p + o) l) (f .1) in
+      let a : length (stretch s (p + o) l) ≤ most-frame = frame-short k (stretch s (p + o) l) (f .1) in
       let b : length (stretch s (p + o) l) ≡ l = length-take-le l (drop (p + o) s) (omega (arith, length-drop (p + o) s)) in
       let h : o + l ≤ n = ⊎-elim (λ e. omega arith) (λ e. omega arith) c in
       listed-exactly k (stretch s p n) o l .1 (

@@ -8,6 +8,7 @@ use lib.Dec.{ltb}
 use lib.ListN.{length, take, drop}
 use lib.Seq.{drop-drop}
 use borrow.Author.Tests.{ltb-true, ltb-false}
+use Rattle.util.specs.Limits.{most-stream}
 use Rattle.util.specs.Splice.{front}
 use Rattle.util.specs.declared.refusal.Refusal.the-variants.{Stream, Index}
 use Rattle.messages.specs.declared.«file_reference».Kind.{Kind}
@@ -78,25 +79,25 @@ same-readings k s t a b o l p q dat dat′ es es′ dau dau′ et et′ g c d hd
 -- ---- rows 11 and 12
 
 module _ (k : Kind) (w : Walked) (s ix ix′ : List ℕ) (c : WalkMet w k s ix ix′) where
-  long-says : 65535 < length s → (w ≡ Refused Stream 0) × (ix′ ≡ ix)
+  long-says : most-stream < length s → (w ≡ Refused Stream 0) × (ix′ ≡ ix)
   long-says h = let p = too-long k s ix h in (c .says ∙ sym (p .0), c .index-is ∙ sym (p .1))
 
-  many-says : length s ≤ 65535 → length ix / 2 < how-many k s → (w ≡ Refused Index (how-many k s)) × (ix′ ≡ ix)
+  many-says : length s ≤ most-stream → length ix / 2 < how-many k s → (w ≡ Refused Index (how-many k s)) × (ix′ ≡ ix)
   many-says h m = let p = too-many k s ix h m in (c .says ∙ sym (p .0), c .index-is ∙ sym (p .1))
 
-  enough-says : length s ≤ 65535 → how-many k s ≤ length ix / 2 → w ≡ Frames (how-many k s)
+  enough-says : length s ≤ most-stream → how-many k s ≤ length ix / 2 → w ≡ Frames (how-many k s)
   enough-says h m = c .says ∙ sym (enough k s ix h m .0)
 
   -- one of the three
-  cases : {C : Type 0} → (65535 < length s → C) → (length s ≤ 65535 → length ix / 2 < how-many k s → C)
-      → (length s ≤ 65535 → how-many k s ≤ length ix / 2 → C) → C
+  cases : {C : Type 0} → (most-stream < length s → C) → (length s ≤ most-stream → length ix / 2 < how-many k s → C)
+      → (length s ≤ most-stream → how-many k s ≤ length ix / 2 → C) → C
   cases f g h = ⊎-elim
-      (λ e. f (ltb-true 65535 (length s) e))
+      (λ e. f (ltb-true most-stream (length s) e))
       (λ e. ⊎-elim
-      (λ d. g (ltb-false 65535 (length s) e) (ltb-true (length ix / 2) (how-many k s) d))
-      (λ d. h (ltb-false 65535 (length s) e) (ltb-false (length ix / 2) (how-many k s) d))
+      (λ d. g (ltb-false most-stream (length s) e) (ltb-true (length ix / 2) (how-many k s) d))
+      (λ d. h (ltb-false most-stream (length s) e) (ltb-false (length ix / 2) (how-many k s) d))
       (bool-cases (ltb (length ix / 2) (how-many k s))))
-      (bool-cases (ltb 65535 (length s)))
+      (bool-cases (ltb most-stream (length s)))
 
 pub stream-exactly : StreamExactly
 stream-exactly k w s ix ix′ c = (

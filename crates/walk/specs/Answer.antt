@@ -4,6 +4,7 @@ use mathlib.Core.List.{List, [], _∷_}
 use Prim.Native.Nat.{ℕ, zero, suc, _/_}
 use lib.Dec.{ltb}
 use lib.ListN.{length}
+use Rattle.util.specs.Limits.{most-stream}
 use Rattle.util.specs.Pick.{pick}
 use Rattle.util.specs.Splice.{front}
 use Rattle.util.specs.Refusals.{number}
@@ -42,11 +43,11 @@ how-many k s = length (frames k s)
 -- 11 STREAM: "more than 65,535 bytes"; 12 INDEX: "fewer whole pairs than frames", with the "number of frames"
 unfoldable pub answer : Kind → List ℕ → List ℕ → Walked
 answer k s ix =
-    pick (ltb 65535 (length s)) (Refused Stream 0) (pick (ltb (length ix / 2) (how-many k s)) (Refused Index (how-many k s)) (Frames (how-many k s)))
+    pick (ltb most-stream (length s)) (Refused Stream 0) (pick (ltb (length ix / 2) (how-many k s)) (Refused Index (how-many k s)) (Frames (how-many k s)))
 
 -- the pairs from the index's start; "numbers past the last pair keep their values", and all of them under a refusal
 unfoldable pub after : Kind → List ℕ → List ℕ → List ℕ
-after k s ix = pick (ltb 65535 (length s)) ix (pick (ltb (length ix / 2) (how-many k s)) ix (front (flat (frames k s)) ix))
+after k s ix = pick (ltb most-stream (length s)) ix (pick (ltb (length ix / 2) (how-many k s)) ix (front (flat (frames k s)) ix))
 
 -- a walk over s for the kind k that was lent the index ix: what it answers, and the index ix′ that it leaves
 pub record WalkMet (r : Walked) (k : Kind) (s ix ix′ : List ℕ) : Type 0 where

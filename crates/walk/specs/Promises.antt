@@ -4,6 +4,7 @@ use mathlib.Core.Logic.{_↔_, _⊎_}
 use mathlib.Core.List.{List}
 use Prim.Native.Nat.{ℕ, _+_, _*_, _/_, _≤_, _<_}
 use lib.ListN.{length, getD, take, drop}
+use Rattle.util.specs.Limits.{most-frame, most-stream}
 use Rattle.messages.specs.declared.«file_reference».Kind.{Kind}
 use Rattle.messages.specs.Messages.{Message, given, SettledFor}
 use Rattle.messages.specs.Promises.{IsFrame, IsFrameFor}
@@ -18,7 +19,7 @@ use Rattle.walk.specs.Answer.{walked-number, walked-value, pairs, how-ma
 -- a call of `walk` over s for the kind k that was lent the index ix, answered w and left ix′. "An index is long enough where INDEX does not apply"
 pub record Walk (k : Kind) (w : Walked) (s ix ix′ : List ℕ) : Type 0 where
   pub met : WalkMet w k s ix ix′
-  pub short : length s ≤ 65535
+  pub short : length s ≤ most-stream
   pub long-enough : how-many k s ≤ length ix / 2
 
 -- what is listed: the pairs of the index at exit, as many as are answered
@@ -87,13 +88,13 @@ SameReadings =
 
 -- no frame has more than 1,292 bytes
 abbrev pub FrameShort : Type 0
-FrameShort = (k : Kind) (bs : List ℕ) → IsFrameFor k bs → length bs ≤ 1292
+FrameShort = (k : Kind) (bs : List ℕ) → IsFrameFor k bs → length bs ≤ most-frame
 
 -- n bytes of a stream from p on hold the frames that begin there: those that begin 1,292 bytes or more before their end, or all where the stream
 -- ends with them
 abbrev pub PieceLists : Type 0
 PieceLists =
-    (k : Kind) (s : List ℕ) (p n o l : ℕ) → (o + 1292 ≤ n) ⊎ (length s ≤ p + n)
+    (k : Kind) (s : List ℕ) (p n o l : ℕ) → (o + most-frame ≤ n) ⊎ (length s ≤ p + n)
     → Listed (p + o, l) (frames k s) ↔ Listed (o, l) (frames k (stretch s p n))
 
 -- ---- rows 11 and 12, and demand 1 of the walk
@@ -101,19 +102,19 @@ PieceLists =
 -- row 11, STREAM
 abbrev pub StreamExactly : Type 0
 StreamExactly =
-    (k : Kind) (w : Walked) (s ix ix′ : List ℕ) → WalkMet w k s ix ix′ → (walked-number w ≡ 11) ↔ (65535 < length s)
+    (k : Kind) (w : Walked) (s ix ix′ : List ℕ) → WalkMet w k s ix ix′ → (walked-number w ≡ 11) ↔ (most-stream < length s)
 
 -- row 12, INDEX
 abbrev pub IndexExactly : Type 0
 IndexExactly =
     (k : Kind) (w : Walked) (s ix ix′ : List ℕ) → WalkMet w k s ix ix′
-    → (walked-number w ≡ 12) ↔ ((length s ≤ 65535) × (length ix / 2 < how-many k s))
+    → (walked-number w ≡ 12) ↔ ((length s ≤ most-stream) × (length ix / 2 < how-many k s))
 
 -- what is answered besides 11 is 0, and the number of frames otherwise, with 12 too
 abbrev pub CountsFrames : Type 0
 CountsFrames =
     (k : Kind) (w : Walked) (s ix ix′ : List ℕ) → WalkMet w k s ix ix′
-    → (65535 < length s → walked-value w ≡ 0) × (length s ≤ 65535 → walked-value w ≡ how-many k s)
+    → (most-stream < length s → walked-value w ≡ 0) × (length s ≤ most-stream → walked-value w ≡ how-many k s)
 
 -- "a refused call alters no lent byte or entry"
 abbrev pub RefusedKept : Type 0

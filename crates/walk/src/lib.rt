@@ -1,9 +1,12 @@
 // Lists the frames of a stream in an index.
 use messages::file_reference::Kind;
+use util::limits::LARGEST_U7;
+use util::limits::MOST_STREAM;
 use util::refusal::Refusal;
 ghost use mathlib.Core.Path.{_≡_};
 ghost use Prim.Native.Nat.{_+_, _*_, _-_, _/_, _%_, _<_, _≤_};
 ghost use lib.ListN.{length, take, drop, getD};
+ghost use Rattle.util.specs.Limits.{most-stream};
 ghost use Rattle.messages.specs.Walk.{frames, is-frame};
 ghost use Rattle.walk.specs.Steps.{run, is-low, not-f0, Closed, Reached, put, put-all};
 ghost use Rattle.walk.specs.Answer.{WalkMet};
@@ -21,7 +24,7 @@ fn last_high(s: &[u8], from: usize) -> usize
 {
     let mut i = from;
     while i < s.len() {
-        if 127 < s[i] {
+        if LARGEST_U7 < s[i] {
             return i;
         }
         i += 1;
@@ -36,16 +39,16 @@ fn high_from(s: &[u8], from: usize) -> usize
 {
     let mut i = from;
     while i + 4 <= s.len() {
-        if 127 < s[i] {
+        if LARGEST_U7 < s[i] {
             return i;
         }
-        if 127 < s[i + 1] {
+        if LARGEST_U7 < s[i + 1] {
             return i + 1;
         }
-        if 127 < s[i + 2] {
+        if LARGEST_U7 < s[i + 2] {
             return i + 2;
         }
-        if 127 < s[i + 3] {
+        if LARGEST_U7 < s[i + 3] {
             return i + 3;
         }
         i += 4;
@@ -131,7 +134,7 @@ fn byte_at(stream: &&[u8], i: usize) -> u8
 
 // Outside a stretch: the first one from F0 to F7, of three bytes or more, from `at` on: 65,536 times its start, and its end. None: the end of the stream as its start.
 fn read_outside(stream: &&[u8], at: usize) -> usize
-    requires { ⌜ (at ≤ length (now (now stream))) × (length (now (now stream)) ≤ 65535) ⌝ }
+    requires { ⌜ (at ≤ length (now (now stream))) × (length (now (now stream)) ≤ most-stream) ⌝ }
     ensures { λ r. ⌜ Reached (now (now (stream .entry))) at (r / 65536) (r % 65536) ⌝ }
 {
     if at < stream.len() {
@@ -150,7 +153,7 @@ fn read_outside(stream: &&[u8], at: usize) -> usize
 // Inside, from the F0 at `start`: the same from there on. An F0 begins another stretch; where 7E does not follow, or another byte that is not
 // below 128 ends the stretch, the reading goes on outside.
 fn read_inside(stream: &&[u8], start: usize) -> usize
-    requires { ⌜ (start < length (now (now stream))) × (length (now (now stream)) ≤ 65535) × (getD (now (now stream)) start 0 ≡ 0xF0) ⌝ }
+    requires { ⌜ (start < length (now (now stream))) × (length (now (now stream)) ≤ most-stream) × (getD (now (now stream)) start 0 ≡ 0xF0) ⌝ }
     ensures { λ r. ⌜ Reached (now (now (stream .entry))) start (r / 65536) (r % 65536) ⌝ }
 {
     let next = start + 1;
@@ -191,7 +194,7 @@ fn frame_at(s: &[u8], kind: Kind, start: usize, e: usize) -> bool
 
 // Puts the pairs of the frames, as far as the index has room, and counts the frames.
 fn list(stream: &[u8], kind: Kind, index: &mut [u32]) -> usize
-    requires { ⌜ length (now stream) ≤ 65535 ⌝ }
+    requires { ⌜ length (now stream) ≤ most-stream ⌝ }
     ensures counted { λ r. ⌜ r ≡ length (frames kind (now (stream .entry))) ⌝ }
     ensures few { λ r. ⌜ r * 6 ≤ length (now (stream .entry)) ⌝ }
     ensures listed { λ _. ⌜ now (index .exit) ≡ put-all (now (index .entry)) 0 (frames kind (now (stream .entry))) ⌝ }
@@ -214,7 +217,7 @@ fn list(stream: &[u8], kind: Kind, index: &mut [u32]) -> usize
 pub fn walk(stream: &[u8], kind: Kind, index: &mut [u32]) -> Walked
     ensures { λ r. ⌜ WalkMet r kind (now (stream .entry)) (now (index .entry)) (now (index .exit)) ⌝ }
 {
-    if 65535 < stream.len() {
+    if MOST_STREAM < stream.len() {
         return Walked::Refused(Refusal::Stream, 0);
     }
     let room = index.len() / 2;

@@ -28,33 +28,13 @@ use Rattle.messages.specs.declared.«file_reference».SelectMap.the-variants as
 use Rattle.messages.specs.declared.«file_reference».FileReferenceMsg.the-variants as reference
 use Rattle.messages.specs.declared.«system_exclusive».UniversalNonRealTimeMsg.the-variants as msg
 use Rattle.messages.specs.Fields.{device-byte, bank-number, loop-value, Four, type-chars}
-use Rattle.write_fronts.specs.declared.values.Letters.{Letters}
+use Rattle.messages.specs.Structures.{loop-byte, extended-loop-byte}
+use Rattle.messages.specs.Maps.{reference-letters}
 
 -- fields one after another: the number of groups, and the value held to them
 abbrev pub spell : List (ℕ × ℕ) → List ℕ
 spell [] = []
 spell (x ∷ l) = groups (x .0) (held (x .0) (x .1)) ++ spell l
-
-abbrev pub loop-byte : LoopType → ℕ
-loop-byte loop.Forward = 0x00
-loop-byte loop.BiDirectional = 0x01
-loop-byte loop.Off = 0x7F
-
-abbrev pub extended-loop-byte : ExtendedLoopType → ℕ
-extended-loop-byte ext.Forward = 0x00
-extended-loop-byte ext.BiDirectional = 0x01
-extended-loop-byte ext.ForwardRelease = 0x02
-extended-loop-byte ext.BiDirectionalRelease = 0x03
-extended-loop-byte ext.Backward = 0x40
-extended-loop-byte ext.BackwardBiDirectional = 0x41
-extended-loop-byte ext.BackwardRelease = 0x42
-extended-loop-byte ext.BackwardBiDirectionalRelease = 0x43
-extended-loop-byte ext.BackwardOneShot = 0x7E
-extended-loop-byte ext.OneShot = 0x7F
-
--- four letters, as the numbers that the layouts name
-abbrev pub four : Letters → Four
-four x = (x .first, (x .second, (x .third, x .fourth)))
 
 -- a value held to lo..hi
 abbrev pub clamp : ℕ → ℕ → ℕ → ℕ
@@ -118,11 +98,6 @@ abbrev pub front-midi : ℕ → GeneralMidi → List ℕ
 front-midi d GM1 = start-2 d 0x09 0x01 []
 front-midi d Off = start-2 d 0x09 0x02 []
 front-midi d GM2 = start-2 d 0x09 0x03 []
-
-abbrev pub reference-letters : FileReferenceType → Four
-reference-letters DLS = (0x44, (0x4C, (0x53, 0x20)))
-reference-letters SF2 = (0x53, (0x46, (0x32, 0x20)))
-reference-letters WAV = (0x57, (0x41, (0x56, 0x20)))
 
 -- a map's length as it is counted, for y entries
 abbrev pub map-length : SelectMap → ℕ → ℕ

@@ -1,11 +1,11 @@
 // The fronts of extended sample dumps.
 use crate::sample_dump::put_loop_request;
 use crate::values::clamp;
-use crate::values::extended_loop_byte;
-use crate::values::loop_value;
 use messages::sample_dump::ExtendedLoopType;
 use messages::sample_dump::ExtendedSampleDumpMsg;
 use messages::sample_dump::LoopNumber;
+use messages::sample_dump::extended_loop_byte;
+use messages::sample_dump::loop_value;
 use util::bytes;
 use util::groups;
 ghost use mathlib.Core.Path.{_≡_};
@@ -14,7 +14,8 @@ ghost use Prim.Native.Nat.{_≤_};
 ghost use lib.ListN.{length};
 ghost use Rattle.util.specs.Splice.{front};
 ghost use Rattle.messages.specs.Fields.{loop-value};
-ghost use Rattle.write_fronts.specs.Fronts.{clamp, extended-loop-byte, spell, start-2, front-extended};
+ghost use Rattle.messages.specs.Structures.{extended-loop-byte};
+ghost use Rattle.write_fronts.specs.Fronts.{clamp, spell, start-2, front-extended};
 ghost use Rattle.write_fronts.specs.Sizes.{size-extended};
 
 // Writes the front of the name of sample n.

@@ -1,9 +1,9 @@
 // The fronts of file dumps.
-use crate::values::device_byte;
-use crate::values::type_letters;
 use messages::file_dump::FileDumpMsg;
 use messages::file_dump::FileType;
+use messages::file_dump::type_letters;
 use messages::system_exclusive::DeviceID;
+use messages::system_exclusive::device_byte;
 use util::bytes;
 use util::groups;
 ghost use mathlib.Core.Path.{_≡_};

@@ -1,18 +1,19 @@
 // The fronts of file references.
 use crate::values::map_length;
-use crate::values::reference_letters;
 use crate::values::url_length;
 use crate::values::url_map_length;
 use messages::file_reference::FileReferenceMsg;
 use messages::file_reference::FileReferenceType;
 use messages::file_reference::SelectMap;
+use messages::file_reference::reference_letters;
 use util::bytes;
 use util::groups;
 ghost use mathlib.Core.Path.{_≡_};
 ghost use Prim.Native.Nat.{_+_, _≤_, min};
 ghost use lib.ListN.{length};
 ghost use Rattle.util.specs.Splice.{front};
-ghost use Rattle.write_fronts.specs.Fronts.{map-length, reference-letters, front-reference};
+ghost use Rattle.messages.specs.Maps.{reference-letters};
+ghost use Rattle.write_fronts.specs.Fronts.{map-length, front-reference};
 ghost use Rattle.write_fronts.specs.Sizes.{size-reference};
 
 // Writes the front of a file to open in context ctx; n is the length of the type and the URL, and the four letters are those of the type.

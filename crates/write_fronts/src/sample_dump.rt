@@ -1,10 +1,10 @@
 // The fronts of sample dumps.
 use crate::values::clamp;
-use crate::values::loop_byte;
-use crate::values::loop_value;
 use messages::sample_dump::LoopNumber;
 use messages::sample_dump::LoopType;
 use messages::sample_dump::SampleDumpMsg;
+use messages::sample_dump::loop_byte;
+use messages::sample_dump::loop_value;
 use util::bytes;
 use util::groups;
 ghost use mathlib.Core.Path.{_≡_};
@@ -14,7 +14,8 @@ ghost use lib.ListN.{length};
 ghost use Rattle.util.specs.Splice.{front};
 ghost use Rattle.util.specs.Groups.{groups};
 ghost use Rattle.messages.specs.Fields.{loop-value};
-ghost use Rattle.write_fronts.specs.Fronts.{clamp, loop-byte, start-2, front-sample};
+ghost use Rattle.messages.specs.Structures.{loop-byte};
+ghost use Rattle.write_fronts.specs.Fronts.{clamp, start-2, front-sample};
 ghost use Rattle.write_fronts.specs.Sizes.{size-sample};
 
 // Writes a header from values that are held.

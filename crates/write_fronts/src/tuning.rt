@@ -1,6 +1,6 @@
 // The fronts of tunings.
-use crate::values::bank_number;
 use messages::tuning::TuningBank;
+use messages::tuning::bank_number;
 use util::bytes;
 use util::groups;
 ghost use mathlib.Core.Path.{_≡_};

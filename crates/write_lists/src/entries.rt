@@ -82,7 +82,7 @@ pub fn put_changes(out: &mut [u8], s: &[u64])
     requires { ⌜ 1 + 4 * min (length (now s)) 127 ≤ length (now out) ⌝ }
     ensures { λ _. ⌜ now (out .exit) ≡ front (part-changes (now (s .entry))) (now (out .entry)) ⌝ }
 {
-    let n = text::at_most(s.len(), 127);
+    let n = util::bytes::at_most(s.len(), 127);
     out[0] = n as u8;
     put_change_list(&mut out[1..], &s[..n]);
 }

@@ -51,7 +51,7 @@ pub fn put_maps(out: &mut [u8], s: &[u64])
     requires { ⌜ 1 + 8 * min (length (now s)) 127 ≤ length (now out) ⌝ }
     ensures { λ _. ⌜ now (out .exit) ≡ front (part-maps (now (s .entry))) (now (out .entry)) ⌝ }
 {
-    let n = text::at_most(s.len(), 127);
+    let n = util::bytes::at_most(s.len(), 127);
     out[0] = n as u8;
     put_map_list(&mut out[1..], &s[..n]);
 }

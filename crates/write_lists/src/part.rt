@@ -99,7 +99,7 @@ fn put_url_select(out: &mut [u8], m: SelectMap, text: &[u8], entries: &[u64])
     ensures { λ _. ⌜ now (out .exit) ≡ front (written url (now (text .entry)) ++ part-select m (now (entries .entry))) (now (out .entry)) ⌝ }
 {
     text::put_url(out, text);
-    let at = text::at_most(text.len(), 260) + 1;
+    let at = util::bytes::at_most(text.len(), 260) + 1;
     maps::put_select(&mut out[at..], m, entries);
 }
 

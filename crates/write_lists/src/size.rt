@@ -28,7 +28,7 @@ fn size_extended(m: ExtendedSampleDumpMsg, x: usize) -> usize
     ensures { λ r. ⌜ r ≡ size-extended m x ⌝ }
 {
     match m {
-        ExtendedSampleDumpMsg::SampleName { .. } => 1 + text::at_most(x, 127),
+        ExtendedSampleDumpMsg::SampleName { .. } => 1 + util::bytes::at_most(x, 127),
         ExtendedSampleDumpMsg::SampleNameRequest { .. } => 0,
         ExtendedSampleDumpMsg::Header { .. } => 0,
         ExtendedSampleDumpMsg::LoopPointTransmission { .. } => 0,
@@ -53,7 +53,7 @@ fn size_select(m: SelectMap, y: usize) -> usize
     ensures { λ r. ⌜ r ≡ size-select m y ⌝ }
 {
     match m {
-        SelectMap::SoundFile => 1 + 8 * text::at_most(y, 127),
+        SelectMap::SoundFile => 1 + 8 * util::bytes::at_most(y, 127),
         SelectMap::WAV(_) => 9,
         SelectMap::SoundFileBankOffset { .. } => 7,
         SelectMap::WAVBankOffset { .. } => 16,
@@ -65,13 +65,13 @@ fn size_reference(m: FileReferenceMsg, x: usize, y: usize) -> usize
     ensures { λ r. ⌜ r ≡ size-reference m x y ⌝ }
 {
     match m {
-        FileReferenceMsg::Open { .. } => text::at_most(x, 260) + 1,
+        FileReferenceMsg::Open { .. } => util::bytes::at_most(x, 260) + 1,
         FileReferenceMsg::SelectContents { ctx: _, map } => size_select(map, y),
         FileReferenceMsg::OpenSelectContents {
             ctx: _,
             file_type: _,
             map,
-        } => text::at_most(x, 260) + 1 + size_select(map, y),
+        } => util::bytes::at_most(x, 260) + 1 + size_select(map, y),
         FileReferenceMsg::Close { .. } => 0,
     }
 }

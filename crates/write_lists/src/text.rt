@@ -1,5 +1,6 @@
 // Texts: sample bytes, names and URLs.
 use util::bytes;
+use util::bytes::at_most;
 ghost use mathlib.Core.Path.{_≡_};
 ghost use Prim.Native.Nat.{_+_, _≤_, min};
 ghost use lib.ListN.{length};
@@ -8,13 +9,6 @@ ghost use Rattle.messages.specs.format.Core.{written};
 ghost use Rattle.messages.specs.Fields.{name-of-16, sample-name, url};
 ghost use Rattle.messages.specs.Structures.{samples};
 ghost use Rattle.write_lists.specs.Writing.{low, fill-to};
-
-// The smaller of two numbers.
-pub fn at_most(n: usize, top: usize) -> usize
-    ensures { λ r. ⌜ r ≡ min n top ⌝ }
-{
-    if n <= top { n } else { top }
-}
 
 // A byte held to 127.
 fn held(b: u8) -> u8

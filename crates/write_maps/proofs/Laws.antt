@@ -8,6 +8,7 @@ use native.Mathlib.Numerals.{add-one}
 use native.Mathlib.Omega.{arith}
 use lib.ListN.{length, take, getD, set}
 use lib.Seq.{take-take, take-suc, take-suc-set}
+use Rattle.util.specs.Limits.{most-counted}
 use Rattle.util.specs.declared.refusal.Refusal.{Refusal}
 use Rattle.util.specs.declared.refusal.Refusal.the-variants.{Kind}
 use Rattle.util.proofs.Laws.Options.{some-none}
@@ -62,23 +63,23 @@ mapped-past (e ∷ es) (suc i) h = mapped-past es i (omega arith)
 
 -- ---- "at most 127, surplus dropped"
 
-first-127 : (l : List SoundFileMap) → take 127 (take (min (length l) 127) l) ≡ take 127 l
-first-127 l = ap (take 127) (sym (take-least 127 l)) ∙ take-take 127 127 l (omega arith)
+first-counted : (l : List SoundFileMap) → take most-counted (take (min (length l) most-counted) l) ≡ take most-counted l
+first-counted l = ap (take most-counted) (sym (take-least most-counted l)) ∙ take-take most-counted most-counted l (omega arith)
 
 -- where contents are refused, the frame does not matter
 never-given : {A : Type 0} (x : Option Refusal) (a b : A) → (x ≡ none → ⊥) → given-unless x a ≡ given-unless x b
 never-given none a b h = absurd (h refl)
 never-given (some r) a b h = refl
 
-pub surplus : (d : DeviceID) (m : FileReferenceMsg) (text : List ℕ) (l : List SoundFileMap) → records-frame d m text (take (min (length l) 127) l) ≡ records-frame d m text l
+pub surplus : (d : DeviceID) (m : FileReferenceMsg) (text : List ℕ) (l : List SoundFileMap) → records-frame d m text (take (min (length l) most-counted) l) ≡ records-frame d m text l
 unfolding records-frame writeOf refusal settle
 surplus d (reference.Open c t) text l = refl
-surplus d (reference.SelectContents c select.SoundFile) text l = rw (first-127 l)
+surplus d (reference.SelectContents c select.SoundFile) text l = rw (first-counted l)
 surplus d (reference.SelectContents c (select.WAV m)) text l = refl
 surplus d (reference.SelectContents c (select.SoundFileBankOffset o b)) text l = refl
 surplus d (reference.SelectContents c (select.WAVBankOffset m o b)) text l = refl
-surplus d (reference.OpenSelectContents c DLS select.SoundFile) text l = rw (first-127 l)
-surplus d (reference.OpenSelectContents c SF2 select.SoundFile) text l = rw (first-127 l)
+surplus d (reference.OpenSelectContents c DLS select.SoundFile) text l = rw (first-counted l)
+surplus d (reference.OpenSelectContents c SF2 select.SoundFile) text l = rw (first-counted l)
 surplus d (reference.OpenSelectContents c WAV select.SoundFile) text l = never-given (least (url .refuses text) (some Kind)) _ _ (λ e. some-none (least-none (url .refuses text) (some Kind) e .1))
 surplus d (reference.OpenSelectContents c t (select.WAV m)) text l = refl
 surplus d (reference.OpenSelectContents c t (select.SoundFileBankOffset o b)) text l = refl
@@ -87,8 +88,8 @@ surplus d (reference.Close c) text l = refl
 
 -- the frame beside all entries that are held is the frame beside the records
 pub all-held : (d : DeviceID) (m : FileReferenceMsg) (text : List ℕ) (l : List SoundFileMap) (es : List ℕ)
-    → map map-of (take (min (length l) 127) es) ≡ take (min (length l) 127) l
-    → records-frame d m text (map map-of (take (min (length l) 127) es)) ≡ records-frame d m text l
+    → map map-of (take (min (length l) most-counted) es) ≡ take (min (length l) most-counted) l
+    → records-frame d m text (map map-of (take (min (length l) most-counted) es)) ≡ records-frame d m text l
 all-held d m text l es e = ap (records-frame d m text) e ∙ surplus d m text l
 
 -- the first n of 130 records

@@ -2,6 +2,7 @@
 -- Assumes nothing.
 use mathlib.Core.Path.{_≡_, refl, sym, ap, ap₂, _∙_}
 use mathlib.Core.List.{List, [], _∷_, map}
+use Rattle.util.specs.Limits.{most-counted}
 use Rattle.messages.specs.declared.«file_reference».SoundFileMap.{SoundFileMap}
 use Rattle.messages.specs.Entries.{map-entry, map-of}
 use Rattle.messages.specs.Messages.{writeOf, refusal, settle}
@@ -21,7 +22,7 @@ pub as-entries : AsEntries
 as-entries d m text l h = sym (same-frame d m text (map map-entry l) ∙ ap (records-frame d m text) (all-back l h))
 
 pub surplus-dropped : SurplusDropped
-surplus-dropped d m text l = ap (records-frame d m text) (take-least 127 l) ∙ surplus d m text l
+surplus-dropped d m text l = ap (records-frame d m text) (take-least most-counted l) ∙ surplus d m text l
 
 pub one-record-written : OneRecord
 unfolding records-frame writeOf refusal settle

@@ -4,6 +4,7 @@ use mathlib.Core.Bool.{true, false}
 use mathlib.Core.List.{List, [], _∷_, map}
 use Prim.Native.Nat.{ℕ, _<_}
 use lib.ListN.{take}
+use Rattle.util.specs.Limits.{most-counted}
 use Rattle.messages.specs.declared.«system_exclusive».DeviceID.{DeviceID}
 use Rattle.messages.specs.declared.«system_exclusive».DeviceID.the-variants.{Device}
 use Rattle.messages.specs.declared.«system_exclusive».UniversalNonRealTimeMsg.the-variants as msg
@@ -36,7 +37,7 @@ AsEntries =
 
 -- "number (at most 127, surplus dropped)"
 abbrev pub SurplusDropped : Type 0
-SurplusDropped = (d : DeviceID) (m : FileReferenceMsg) (text : List ℕ) (l : List SoundFileMap) → records-frame d m text (take 127 l) ≡ records-frame d m text l
+SurplusDropped = (d : DeviceID) (m : FileReferenceMsg) (text : List ℕ) (l : List SoundFileMap) → records-frame d m text (take most-counted l) ≡ records-frame d m text l
 
 -- a record whose fields all differ
 abbrev pub one-record : SoundFileMap

@@ -3,11 +3,13 @@ use messages::file_reference::FileReferenceMsg;
 use messages::file_reference::SoundFileMap;
 use messages::system_exclusive::DeviceID;
 use messages::system_exclusive::UniversalNonRealTimeMsg;
+use util::limits::MOST_COUNTED;
 use writer::Written;
 ghost use mathlib.Core.Path.{_≡_};
 ghost use mathlib.Core.List.{map};
 ghost use Prim.Native.Nat.{_≤_, min};
 ghost use lib.ListN.{length, take, getD};
+ghost use Rattle.util.specs.Limits.{most-counted};
 ghost use Rattle.messages.specs.Entries.{map-of};
 ghost use Rattle.messages.specs.Maps.{default-sound-file-map};
 ghost use Rattle.writer.specs.Write.{written-at, output-after};
@@ -15,14 +17,14 @@ ghost use Rattle.write_maps.specs.Records.{records-frame};
 
 // How many of n records are written.
 fn count(n: usize) -> usize
-    ensures { λ r. ⌜ r ≡ min n 127 ⌝ }
+    ensures { λ r. ⌜ r ≡ min n most-counted ⌝ }
 {
-    if n < 127 { n } else { 127 }
+    if n < MOST_COUNTED { n } else { MOST_COUNTED }
 }
 
 // Room for the entries of 127 records.
-fn no_entries() -> [u64; 127] {
-    [0u64; 127]
+fn no_entries() -> [u64; MOST_COUNTED] {
+    [0u64; MOST_COUNTED]
 }
 
 // The entry of a record.
@@ -37,12 +39,12 @@ fn write_entries(
     device: DeviceID,
     m: FileReferenceMsg,
     text: &[u8],
-    entries: [u64; 127],
+    entries: [u64; MOST_COUNTED],
     n: usize,
     out: &mut [u8],
     place: usize,
 ) -> Written
-    requires { ⌜ n ≤ 127 ⌝ }
+    requires { ⌜ n ≤ most-counted ⌝ }
     ensures { λ r. ⌜ (r ≡ written-at (records-frame device m (now (text .entry)) (map map-of (take n entries))) (length (now (out .entry))) place)
         × (now (out .exit) ≡ output-after (records-frame device m (now (text .entry)) (map map-of (take n entries))) (now (out .entry)) place) ⌝ }
 {

@@ -5,13 +5,14 @@ use mathlib.Core.List.{List, [], _∷_, _++_}
 use mathlib.Core.Path.{_≡_}
 use Prim.Native.Nat.{ℕ, _≤_}
 use lib.ListN.{length}
+use Rattle.util.specs.Limits.{most-name}
 use Rattle.util.specs.Checksum.{checksum}
 use Rattle.util.specs.declared.refusal.Refusal.{Refusal}
 use Rattle.messages.specs.declared.«system_exclusive».DeviceID.{DeviceID}
 use Rattle.messages.specs.declared.«system_exclusive».UniversalNonRealTimeMsg.{UniversalNonRealTimeMsg}
 use Rattle.messages.specs.declared.«file_dump».FileType.{FileType}
 use Rattle.messages.specs.Refusals.{least}
-use Rattle.messages.specs.Fields.{device-byte, high, type-bytes, most-name}
+use Rattle.messages.specs.Fields.{device-byte, high, type-bytes}
 use Rattle.messages.specs.Layouts.{summed}
 use Rattle.messages.specs.Contents.{too-large, longer}
 use Rattle.messages.specs.MessageOf.{headOf}

@@ -77,7 +77,7 @@ pub fn write_handshake(device: DeviceID, a: u8, n: u8, out: &mut [u8], place: us
     if out.len() - place < 6 {
         return Written::Refused(Refusal::Space);
     }
-    let d = write_fronts::values::device_byte(device);
+    let d = messages::system_exclusive::device_byte(device);
     put_handshake(&mut out[place..], d, a, n);
     Written::Frame(6)
 }

@@ -195,7 +195,7 @@ fn put_admitted(
         × (length (frame-of device m (now text) (now entries)) ≤ length (now out)) ⌝ }
     ensures { λ _. ⌜ now (out .exit) ≡ front (frame-of device m (now (text .entry)) (now (entries .entry))) (now (out .entry)) ⌝ }
 {
-    let d = write_fronts::values::device_byte(device);
+    let d = messages::system_exclusive::device_byte(device);
     put_frame(out, d, m, text, entries, s.front, s.part, s.sum);
 }
 

@@ -1,4 +1,4 @@
--- `desk_numbers::digits` meets its contract. The invariant: what the digits from i on say after n is what all digits say.
+-- `desk_decimals::digits` meets its contract. The invariant: what the digits from i on say after n is what all digits say.
 -- Assumes nothing.
 use mathlib.Core.Path.{_≡_}
 use lib.ListN.{length, drop}

@@ -1,4 +1,4 @@
--- `desk_numbers::parse` meets its contract: a word without a byte is no number, another is what its digits say.
+-- `desk_decimals::parse` meets its contract: a word without a byte is no number, another is what its digits say.
 -- Assumes nothing.
 use borrow.Author.Needs.{needs}
 use mathlib.Core.Path.{_∙_}

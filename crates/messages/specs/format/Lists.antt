@@ -12,6 +12,7 @@ use lib.Seq.{take-all, take-nil}
 use borrow.Author.Tests.{ltb-true, lt-ltb}
 use Rattle.util.specs.Groups.{Seven, seven}
 use Rattle.util.proofs.Laws.Groups.{seven-append, seven-true, true-seven}
+use Rattle.util.specs.Limits.{most-counted}
 use Rattle.util.specs.Options.{only-if, unless}
 use Rattle.util.proofs.Laws.Options.{only-if-some, unless-none}
 use Rattle.messages.specs.Types.{Refusal}
@@ -135,11 +136,11 @@ module _ {A : Type 0} (p : Part A) where
   read-counted [] = bad
   read-counted (n ∷ bs) = guard (ltb n 128) (all-read n bs)
 
-  pub counted-keeps : (l : List A) → all-refuse (take 127 l) ≡ none → (length (all-settle (take 127 l)) < 128) × all-settled (all-settle (take 127 l))
-  counted-keeps l e = (omega (arith, all-length (take 127 l), length-take 127 l), all-keeps (take 127 l) e)
+  pub counted-keeps : (l : List A) → all-refuse (take most-counted l) ≡ none → (length (all-settle (take most-counted l)) < 128) × all-settled (all-settle (take most-counted l))
+  counted-keeps l e = (omega (arith, all-length (take most-counted l), length-take most-counted l), all-keeps (take most-counted l) e)
 
-  pub counted-stays : (l : List A) → (length l < 128) × all-settled l → (all-refuse (take 127 l) ≡ none) × (all-settle (take 127 l) ≡ l)
-  counted-stays l h = rw (take-all 127 l (omega arith)) (all-stays l (h .1))
+  pub counted-stays : (l : List A) → (length l < 128) × all-settled l → (all-refuse (take most-counted l) ≡ none) × (all-settle (take most-counted l) ≡ l)
+  counted-stays l h = rw (take-all most-counted l (omega arith)) (all-stays l (h .1))
 
   pub counted-back : (l : List A) (r : List ℕ) → (length l < 128) × all-settled l → read-counted (length l ∷ all-bytes l ++ r) ≡ got l r
   counted-back l r h = rw (lt-ltb _ _ (h .0), all-back l r (h .1))
@@ -155,8 +156,8 @@ module _ {A : Type 0} (p : Part A) where
   abbrev pub counted : Part (List A)
   counted =
       record {
-        refuses = λ l. all-refuse (take 127 l);
-        settle = λ l. all-settle (take 127 l);
+        refuses = λ l. all-refuse (take most-counted l);
+        settle = λ l. all-settle (take most-counted l);
         settled = λ l. (length l < 128) × all-settled l;
         bytes = λ l. length l ∷ all-bytes l;
         read = read-counted;

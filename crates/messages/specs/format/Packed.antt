@@ -7,6 +7,7 @@ use native.Mathlib.Omega.{arith}
 use lib.Dec.{eqb, leb, lit<}
 use lib.ListN.{length}
 use borrow.Author.Tests.{eqb-true, eq-eqb, leb-true, le-leb}
+use Rattle.util.specs.Limits.{most-data}
 use Rattle.util.specs.Groups.{Seven, seven}
 use Rattle.util.specs.Options.{only-if, unless}
 use Rattle.util.specs.Packing.{pack, unpack, Bytes}
@@ -25,10 +26,6 @@ held-bytes (x ∷ l) = min x 255 ∷ held-bytes l
 -- 01's count byte: "n + n div 7"
 abbrev pub count-byte : List ℕ → ℕ
 count-byte l = length l + length l / 7
-
--- LONG: "file data above 111"
-abbrev pub most-data : ℕ
-most-data = 111
 
 abbrev pub counted-as : ℕ → Option (List ℕ) → Option (List ℕ)
 counted-as n none = none

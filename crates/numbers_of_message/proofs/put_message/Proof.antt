@@ -1,4 +1,4 @@
--- `to_numbers::put_message` meets its contract, message by message.
+-- `numbers_of_message::put_message` meets its contract, message by message.
 -- Assumes nothing.
 use borrow.Author.Needs.{needs}
 use Rattle.numbers_of_message.proofs.put_message.Statement.{statement}

@@ -1,4 +1,4 @@
--- `to_numbers::to_numbers` meets its contract: the numbers are those that are put for the number of the device.
+-- `numbers_of_message::to_numbers` meets its contract: the numbers are those that are put for the number of the device.
 -- Assumes nothing.
 use mathlib.Core.Path.{sym}
 use Prim.Native.Nat.{ℕ}

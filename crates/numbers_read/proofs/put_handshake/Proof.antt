@@ -1,4 +1,4 @@
--- `read_numbers::put_handshake` meets its contract: six bytes by place.
+-- `numbers_read::put_handshake` meets its contract: six bytes by place.
 -- Assumes nothing.
 use mathlib.Core.Path.{sym, subst}
 use mathlib.Core.List.{List}

@@ -1,4 +1,4 @@
--- `read_numbers::put_header` meets its contract: the message that its fields are, which takes no places.
+-- `numbers_read::put_header` meets its contract: the message that its fields are, which takes no places.
 -- Assumes nothing.
 use mathlib.Core.Path.{refl, ap, subst, _∙_}
 use mathlib.Core.List.{List}

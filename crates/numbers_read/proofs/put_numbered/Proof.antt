@@ -1,4 +1,4 @@
--- `read_numbers::put_numbered` meets its contract: seven stores from the start.
+-- `numbers_read::put_numbered` meets its contract: seven stores from the start.
 -- Assumes nothing.
 use mathlib.Core.Path.{ap, _∙_}
 use mathlib.Core.List.{[], _∷_}

@@ -1,4 +1,4 @@
--- `read_numbers::put_packet` meets its contract: a head of one byte, and the packet as its field.
+-- `numbers_read::put_packet` meets its contract: a head of one byte, and the packet as its field.
 -- Assumes nothing.
 use denote.Ref.{now}
 use Rattle.numbers_read.proofs.Handshake.{nak-any, ack-any}

@@ -1,4 +1,4 @@
--- `read_numbers::put_plain` meets its contract: a sample header, or none.
+-- `numbers_read::put_plain` meets its contract: a sample header, or none.
 -- Assumes nothing.
 use mathlib.Core.Path.{sym, subst}
 use denote.Ref.{now}

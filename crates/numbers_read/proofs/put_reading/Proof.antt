@@ -1,4 +1,4 @@
--- `read_numbers::put_reading` meets its contract: the message behind four numbers.
+-- `numbers_read::put_reading` meets its contract: the message behind four numbers.
 -- Assumes nothing.
 use mathlib.Core.Path.{ap, _∙_}
 use mathlib.Core.List.{_∷_}

@@ -1,4 +1,4 @@
--- `read_numbers::put_sample` meets its contract: the message behind four numbers.
+-- `numbers_read::put_sample` meets its contract: the message behind four numbers.
 -- Assumes nothing.
 use mathlib.Core.Path.{_≡_, sym, ap, subst, _∙_}
 use mathlib.Core.List.{List, _∷_}

@@ -1,4 +1,4 @@
--- `read_numbers::read_any` meets its contract: what the opening has found, or its refusal.
+-- `numbers_read::read_any` meets its contract: what the opening has found, or its refusal.
 -- Assumes nothing.
 use mathlib.Core.Path.{refl, subst}
 use denote.Ref.{now}

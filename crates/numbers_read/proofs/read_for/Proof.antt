@@ -1,4 +1,4 @@
--- `read_numbers::read_for` meets its contract: a handshake, or any frame.
+-- `numbers_read::read_for` meets its contract: a handshake, or any frame.
 -- Assumes nothing.
 use denote.Ref.{now}
 use Rattle.messages.specs.Messages.{readOf}

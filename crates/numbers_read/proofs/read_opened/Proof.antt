@@ -1,4 +1,4 @@
--- `read_numbers::read_opened` meets its contract: with no lent space, or with it.
+-- `numbers_read::read_opened` meets its contract: with no lent space, or with it.
 -- Assumes nothing.
 use denote.Ref.{now}
 use Rattle.numbers_read.proofs.Plain.{plain-to, other-to}

@@ -1,4 +1,4 @@
--- `read_numbers::read_part` meets its contract: the answer of the reader, and its numbers.
+-- `numbers_read::read_part` meets its contract: the answer of the reader, and its numbers.
 -- Assumes nothing.
 use mathlib.Core.Path.{refl}
 use Rattle.reader.specs.declared.lent.Reading.the-variants as reading

@@ -1,4 +1,4 @@
--- `numbers::fits` meets its contract: the first head byte tells the rows.
+-- `numbers_to_message::fits` meets its contract: the first head byte tells the rows.
 -- Assumes nothing.
 use mathlib.Core.Path.{sym, ap, _∙_}
 use mathlib.Core.List.{[]}

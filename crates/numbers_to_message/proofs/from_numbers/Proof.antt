@@ -1,4 +1,4 @@
--- `numbers::from_numbers` meets its contract: the tests are those of the definition, and the message is that of the rows of the head code.
+-- `numbers_to_message::from_numbers` meets its contract: the tests are those of the definition, and the message is that of the rows of the head code.
 -- Assumes nothing.
 use mathlib.Core.Path.{sym, ap, _∙_}
 use mathlib.Core.Bool.{Bool}

@@ -1,4 +1,4 @@
--- `write_numbers::write` meets its contract: each head code by its own way.
+-- `numbers_write::write` meets its contract: each head code by its own way.
 -- Assumes nothing.
 use mathlib.Core.Path.{_≡_, refl}
 use lib.ListN.{getD}

@@ -1,4 +1,4 @@
--- `write_numbers::write_handshake` meets its contract: the numbers are no message, or the handshake message is written.
+-- `numbers_write::write_handshake` meets its contract: the numbers are no message, or the handshake message is written.
 -- Assumes nothing.
 use mathlib.Core.Path.{refl, sym, ap, _∙_}
 use mathlib.Core.List.{List}

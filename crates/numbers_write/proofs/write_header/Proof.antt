@@ -1,4 +1,4 @@
--- `write_numbers::write_header` meets its contract: the numbers are no header, or the header is written.
+-- `numbers_write::write_header` meets its contract: the numbers are no header, or the header is written.
 -- Assumes nothing.
 use mathlib.Core.Path.{refl, sym, _∙_}
 use denote.Ref.{now}

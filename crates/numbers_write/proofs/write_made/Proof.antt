@@ -1,4 +1,4 @@
--- `write_numbers::write_made` meets its contract: the writer's answer in numbers.
+-- `numbers_write::write_made` meets its contract: the writer's answer in numbers.
 -- Assumes nothing.
 use mathlib.Core.Path.{sym, _∙_}
 use denote.Ref.{now}

@@ -1,4 +1,4 @@
--- `write_numbers::write_packet` meets its contract: the numbers are no packet, or the packet is written.
+-- `numbers_write::write_packet` meets its contract: the numbers are no packet, or the packet is written.
 -- Assumes nothing.
 use mathlib.Core.Path.{refl, sym, _∙_}
 use denote.Ref.{now}

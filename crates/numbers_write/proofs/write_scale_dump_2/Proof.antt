@@ -1,4 +1,4 @@
--- `write_numbers::write_scale_dump_2` meets its contract: the numbers are no scale dump, or the scale dump is written.
+-- `numbers_write::write_scale_dump_2` meets its contract: the numbers are no scale dump, or the scale dump is written.
 -- Assumes nothing.
 use mathlib.Core.Path.{refl, sym, _∙_}
 use denote.Ref.{now}

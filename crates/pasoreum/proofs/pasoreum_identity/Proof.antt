@@ -1,4 +1,4 @@
--- `boundary::pasoreum_identity` meets its contract: the answer of identity reading, and its numbers.
+-- `pasoreum::pasoreum_identity` meets its contract: the answer of identity reading, and its numbers.
 -- Assumes nothing.
 use mathlib.Core.Path.{sym, _∙_}
 use denote.Ref.{now}

@@ -1,4 +1,4 @@
--- `boundary::pasoreum_split_rate` meets its contract: the split's answer in numbers.
+-- `pasoreum::pasoreum_split_rate` meets its contract: the split's answer in numbers.
 -- Assumes nothing.
 use mathlib.Core.Path.{sym, ap, _∙_}
 use Rattle.rates.specs.declared.SplitAnswer.{SplitAnswer}

@@ -10,6 +10,7 @@ use lib.Dec.{eqb}
 use lib.ListN.{length, take, drop, getD, length-drop}
 use lib.Seq.{drop-cons}
 use borrow.Author.Tests.{le-leb, lt-leb, leb-true, eq-eqb, ne-eqb}
+use Rattle.util.specs.Limits.{most-name, most-data}
 use Rattle.util.specs.Groups.{Seven}
 use Rattle.util.specs.Options.{only-if, map-option}
 use Rattle.util.specs.Packing.{pack}
@@ -35,15 +36,15 @@ use Rattle.read_file_dump.proofs.Laws.Packed.{unpack-none-over, data-le
 module _ (f : List ℕ) (s : Seven f) where
   -- ---- 07 01
 
-  pub header-not : (9 ≤ length f → length f ≤ 1033 → ⊥) → form head.FileDumpHeader .read f ≡ none
+  pub header-not : (9 ≤ length f → length f ≤ 9 + most-name → ⊥) → form head.FileDumpHeader .read f ≡ none
   header-not k =
       not-some (form head.FileDumpHeader .read f)
       λ a e. let w = form head.FileDumpHeader .only f a e in
       let n = sym (ap length (w .1)) in
-      let m : length (a .name) ≤ 1024 = leb-true (length (a .name)) 1024 (w .0 .1 .1 .1 .1) in
+      let m : length (a .name) ≤ most-name = leb-true (length (a .name)) most-name (w .0 .1 .1 .1 .1) in
       k (omega arith) (omega arith)
 
-  pub header-reads : 9 ≤ length f → length f - 9 ≤ 1024
+  pub header-reads : 9 ≤ length f → length f - 9 ≤ most-name
       → form head.FileDumpHeader .read f
       ≡ some (record { sender = device-of (value-at 1 f 0); type = type-at f 1; length = value-at 4 f 5; name = take (length f - 9) (drop 9 f) })
   header-reads h m =
@@ -56,10 +57,10 @@ module _ (f : List ℕ) (s : Seven f) where
         unsigned-at f s 1 4 (omega arith),
         unsigned-at f s 4 5 (omega arith),
         true-seven (drop 9 f) (seven-drop 9 f s),
-        le-leb (length (drop 9 f)) 1024 (omega (arith, length-drop 9 f)),
+        le-leb (length (drop 9 f)) most-name (omega (arith, length-drop 9 f)),
       )
 
-  pub header-found : 9 ≤ length f → length f - 9 ≤ 1024 → (r : Found)
+  pub header-found : 9 ≤ length f → length f - 9 ≤ most-name → (r : Found)
       → r ≡ Is (msg.FileDump (file.Header (device-of (value-at 1 f 0)) (type-at f 1) (value-at 4 f 5))) 9 (length f - 9) 0 0 → Reads head.FileDumpHeader r f
   header-found h m r e =
       subst (λ (r : Found). Reads head.FileDumpHeader r f) (sym e)
@@ -71,15 +72,15 @@ module _ (f : List ℕ) (s : Seven f) where
 
   -- ---- 07 03
 
-  pub request-not : (5 ≤ length f → length f ≤ 1029 → ⊥) → form head.FileDumpRequest .read f ≡ none
+  pub request-not : (5 ≤ length f → length f ≤ 5 + most-name → ⊥) → form head.FileDumpRequest .read f ≡ none
   request-not k =
       not-some (form head.FileDumpRequest .read f)
       λ a e. let w = form head.FileDumpRequest .only f a e in
       let n = sym (ap length (w .1)) in
-      let m : length (a .name) ≤ 1024 = leb-true (length (a .name)) 1024 (w .0 .1 .1 .1) in
+      let m : length (a .name) ≤ most-name = leb-true (length (a .name)) most-name (w .0 .1 .1 .1) in
       k (omega arith) (omega arith)
 
-  pub request-reads : 5 ≤ length f → length f - 5 ≤ 1024
+  pub request-reads : 5 ≤ length f → length f - 5 ≤ most-name
       → form head.FileDumpRequest .read f ≡ some (record { requester = device-of (value-at 1 f 0); type = type-at f 1; name = take (length f - 5) (drop 5 f) })
   request-reads h m =
       rw (
@@ -90,10 +91,10 @@ module _ (f : List ℕ) (s : Seven f) where
         unsigned-at f s 1 3 (omega arith),
         unsigned-at f s 1 4 (omega arith),
         true-seven (drop 5 f) (seven-drop 5 f s),
-        le-leb (length (drop 5 f)) 1024 (omega (arith, length-drop 5 f)),
+        le-leb (length (drop 5 f)) most-name (omega (arith, length-drop 5 f)),
       )
 
-  pub request-found : 5 ≤ length f → length f - 5 ≤ 1024 → (r : Found)
+  pub request-found : 5 ≤ length f → length f - 5 ≤ most-name → (r : Found)
       → r ≡ Is (msg.FileDump (file.Request (device-of (value-at 1 f 0)) (type-at f 1))) 5 (length f - 5) 0 0 → Reads head.FileDumpRequest r f
   request-found h m r e =
       subst (λ (r : Found). Reads head.FileDumpRequest r f) (sym e)
@@ -131,11 +132,11 @@ module _ (f : List ℕ) (s : Seven f) where
   pub packet-over : 2 ≤ length f → none-over 0 0 (drop 2 f) ≡ false → form head.FileDumpPacket .read f ≡ none
   packet-over h e = packet-is h ∙ rw e
 
-  long : (t : Bool) (n : ℕ) (l : List ℕ) → 111 < length l → packet-of (counted-as n (only-if t (some l))) ≡ none
-  long true n l g = rw (lt-leb (length l) 111 g) (no-packet (eqb n (count-byte l)))
+  long : (t : Bool) (n : ℕ) (l : List ℕ) → most-data < length l → packet-of (counted-as n (only-if t (some l))) ≡ none
+  long true n l g = rw (lt-leb (length l) most-data g) (no-packet (eqb n (count-byte l)))
   long false n l g = refl
 
-  pub packet-long : 2 ≤ length f → 111 < length (data-at f 2) → form head.FileDumpPacket .read f ≡ none
+  pub packet-long : 2 ≤ length f → most-data < length (data-at f 2) → form head.FileDumpPacket .read f ≡ none
   packet-long h g = packet-is h ∙ long (none-over 0 0 (drop 2 f)) (getD f 1 0) (data-at f 2) g
 
   other-count : (t : Bool) (n : ℕ) (l : List ℕ) → (n ≡ count-byte l → ⊥) → packet-of (counted-as n (only-if t (some l))) ≡ none
@@ -145,7 +146,7 @@ module _ (f : List ℕ) (s : Seven f) where
   pub packet-count : 2 ≤ length f → (getD f 1 0 ≡ count-byte (data-at f 2) → ⊥) → form head.FileDumpPacket .read f ≡ none
   packet-count h g = packet-is h ∙ other-count (none-over 0 0 (drop 2 f)) (getD f 1 0) (data-at f 2) g
 
-  pub packet-reads : 2 ≤ length f → none-over 0 0 (drop 2 f) ≡ true → length (data-at f 2) ≤ 111 → getD f 1 0 ≡ count-byte (data-at f 2)
+  pub packet-reads : 2 ≤ length f → none-over 0 0 (drop 2 f) ≡ true → length (data-at f 2) ≤ most-data → getD f 1 0 ≡ count-byte (data-at f 2)
       → form head.FileDumpPacket .read f ≡ some (record { count = value-at 1 f 0; file-data = data-at f 2 })
   packet-reads h e g c = packet-is h ∙ rw (e, eq-eqb _ _ c, le-leb _ _ g)
 
@@ -153,7 +154,7 @@ module _ (f : List ℕ) (s : Seven f) where
   pub packet-size : length (data-at f 2) ≡ length f - 2 - (length f - 2 + 7) / 8
   packet-size = omega (arith, data-length 0 0 (drop 2 f) (omega arith), length-drop 2 f)
 
-  pub packet-found : 2 ≤ length f → none-over 0 0 (drop 2 f) ≡ true → (n : ℕ) → n ≡ length (data-at f 2) → n ≤ 111 → getD f 1 0 ≡ n + n / 7 → (r : Found)
+  pub packet-found : 2 ≤ length f → none-over 0 0 (drop 2 f) ≡ true → (n : ℕ) → n ≡ length (data-at f 2) → n ≤ most-data → getD f 1 0 ≡ n + n / 7 → (r : Found)
       → r ≡ Is (msg.FileDump (file.Packet (value-at 1 f 0))) 0 0 2 n → Reads head.FileDumpPacket r f
   packet-found h t n z g c r e =
       subst (λ (r : Found). Reads head.FileDumpPacket r f) (sym e)

@@ -8,6 +8,7 @@ use native.Mathlib.Omega.{arith}
 use lib.ListN.{length, take, drop, getD, length-append}
 use lib.Seq.{drop-cons}
 use borrow.Author.Tests.{eq-eqb, ne-eqb}
+use Rattle.util.specs.Limits.{most-url}
 use Rattle.util.specs.Groups.{Seven}
 use Rattle.util.proofs.Laws.Options.{not-some}
 use Rattle.messages.specs.declared.head.Head.the-variants as head
@@ -63,20 +64,20 @@ module _ (f : List ℕ) (s : Seven f) where
 
     module _ (t : FileReferenceType) (e : look reference-types (drop 4 f) ≡ got t (drop 8 f)) where
       pub open-endless : length f ≤ 8 + first-zero (drop 8 f) → form head.FileReferenceOpen .read f ≡ none
-      open-endless h = rw (unsigned-at f s 2 0 (omega arith), unsigned-at f s 2 2 (omega arith), e, url-none f s 8 260 h)
+      open-endless h = rw (unsigned-at f s 2 0 (omega arith), unsigned-at f s 2 2 (omega arith), e, url-none f s 8 most-url h)
 
       module _ (h : 8 + first-zero (drop 8 f) < length f) where
-        pub open-long : 260 < first-zero (drop 8 f) → form head.FileReferenceOpen .read f ≡ none
-        open-long g = rw (unsigned-at f s 2 0 (omega arith), unsigned-at f s 2 2 (omega arith), e, url-long f s 8 h 260 g)
+        pub open-long : most-url < first-zero (drop 8 f) → form head.FileReferenceOpen .read f ≡ none
+        open-long g = rw (unsigned-at f s 2 0 (omega arith), unsigned-at f s 2 2 (omega arith), e, url-long f s 8 h most-url g)
 
-        module _ (g : first-zero (drop 8 f) ≤ 260) where
+        module _ (g : first-zero (drop 8 f) ≤ most-url) where
           pub open-more : (length f ≡ 8 + first-zero (drop 8 f) + 1 → ⊥) → form head.FileReferenceOpen .read f ≡ none
           open-more k =
               rw (
                 unsigned-at f s 2 0 (omega arith),
                 unsigned-at f s 2 2 (omega arith),
                 e,
-                url-at f s 8 h 260 g,
+                url-at f s 8 h most-url g,
                 drop-cons f (8 + first-zero (drop 8 f) + 1) 0 (omega arith),
               )
 
@@ -87,7 +88,7 @@ module _ (f : List ℕ) (s : Seven f) where
                   unsigned-at f s 2 0 (omega arith),
                   unsigned-at f s 2 2 (omega arith),
                   e,
-                  url-at f s 8 h 260 g,
+                  url-at f s 8 h most-url g,
                   none-left f (8 + first-zero (drop 8 f) + 1) m,
                   ne-eqb _ _ (λ x. k (x ∙ url-size t (take (first-zero (drop 8 f)) (drop 8 f)) ∙ ap (λ (v : ℕ). 5 + v) (url-length (drop 8 f)))),
                 )
@@ -100,7 +101,7 @@ module _ (f : List ℕ) (s : Seven f) where
                   unsigned-at f s 2 0 (omega arith),
                   unsigned-at f s 2 2 (omega arith),
                   e,
-                  url-at f s 8 h 260 g,
+                  url-at f s 8 h most-url g,
                   none-left f (8 + first-zero (drop 8 f) + 1) m,
                   eq-eqb _ _ (v ∙ ap (λ (v : ℕ). 5 + v) (sym (url-length (drop 8 f))) ∙ sym (url-size t (take (first-zero (drop 8 f)) (drop 8 f)))),
                 )

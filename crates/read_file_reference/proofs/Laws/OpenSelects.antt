@@ -7,6 +7,7 @@ use Prim.Native.Nat.{ℕ, suc, _+_, _<_, _≤_}
 use native.Mathlib.Omega.{arith}
 use lib.ListN.{length, take, drop, length-append}
 use borrow.Author.Tests.{eq-eqb, ne-eqb}
+use Rattle.util.specs.Limits.{most-url}
 use Rattle.util.specs.Groups.{Seven}
 use Rattle.util.proofs.Laws.Options.{not-some}
 use Rattle.messages.specs.declared.head.Head.the-variants as head
@@ -48,15 +49,15 @@ module _ (f : List ℕ) (s : Seven f) where
 
     module _ (t : FileReferenceType) (e : look reference-types (drop 4 f) ≡ got t (drop 8 f)) where
       pub both-endless : length f ≤ 8 + first-zero (drop 8 f) → form head.FileReferenceOpenSelect .read f ≡ none
-      both-endless h = rw (unsigned-at f s 2 0 (omega arith), unsigned-at f s 2 2 (omega arith), e, url-none f s 8 260 h)
+      both-endless h = rw (unsigned-at f s 2 0 (omega arith), unsigned-at f s 2 2 (omega arith), e, url-none f s 8 most-url h)
 
       module _ (h : 8 + first-zero (drop 8 f) < length f) where
-        pub both-long : 260 < first-zero (drop 8 f) → form head.FileReferenceOpenSelect .read f ≡ none
-        both-long g = rw (unsigned-at f s 2 0 (omega arith), unsigned-at f s 2 2 (omega arith), e, url-long f s 8 h 260 g)
+        pub both-long : most-url < first-zero (drop 8 f) → form head.FileReferenceOpenSelect .read f ≡ none
+        both-long g = rw (unsigned-at f s 2 0 (omega arith), unsigned-at f s 2 2 (omega arith), e, url-long f s 8 h most-url g)
 
-        module _ (g : first-zero (drop 8 f) ≤ 260) where
+        module _ (g : first-zero (drop 8 f) ≤ most-url) where
           pub both-none : select-for t .read (drop (8 + first-zero (drop 8 f) + 1) f) ≡ none → form head.FileReferenceOpenSelect .read f ≡ none
-          both-none x = rw (unsigned-at f s 2 0 (omega arith), unsigned-at f s 2 2 (omega arith), e, url-at f s 8 h 260 g, x)
+          both-none x = rw (unsigned-at f s 2 0 (omega arith), unsigned-at f s 2 2 (omega arith), e, url-at f s 8 h most-url g, x)
 
           module _ (x : AnySelect) (d : select-for t .read (drop (8 + first-zero (drop 8 f) + 1) f) ≡ some x) where
             pub both-unsaid : (value-at 2 f 2 ≡ 5 + first-zero (drop 8 f) + select-length x → ⊥) → form head.FileReferenceOpenSelect .read f ≡ none
@@ -65,7 +66,7 @@ module _ (f : List ℕ) (s : Seven f) where
                   unsigned-at f s 2 0 (omega arith),
                   unsigned-at f s 2 2 (omega arith),
                   e,
-                  url-at f s 8 h 260 g,
+                  url-at f s 8 h most-url g,
                   d,
                   ne-eqb _ _ (λ v. k (v ∙ ap (λ (u : ℕ). 5 + u + select-length x) (url-length (drop 8 f)))),
                 )
@@ -78,7 +79,7 @@ module _ (f : List ℕ) (s : Seven f) where
                   unsigned-at f s 2 0 (omega arith),
                   unsigned-at f s 2 2 (omega arith),
                   e,
-                  url-at f s 8 h 260 g,
+                  url-at f s 8 h most-url g,
                   d,
                   eq-eqb _ _ (v ∙ ap (λ (u : ℕ). 5 + u + select-length x) (sym (url-length (drop 8 f)))),
                 )

@@ -1,4 +1,4 @@
--- `read_fields::fields_of` meets its contract, head by head.
+-- `read_heads::fields_of` meets its contract, head by head.
 -- Assumes nothing.
 use borrow.Author.Needs.{needs}
 use Rattle.read_heads.proofs.fields_of.Statement.{statement}

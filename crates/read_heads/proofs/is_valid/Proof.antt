@@ -1,4 +1,4 @@
--- `read_fields::is_valid` meets its contract, by head.
+-- `read_heads::is_valid` meets its contract, by head.
 -- Assumes nothing.
 use mathlib.Core.Path.{_≡_, sym, ap, _∙_}
 use mathlib.Core.List.{List}

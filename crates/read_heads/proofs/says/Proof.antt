@@ -1,4 +1,4 @@
--- `read_fields::says` meets its contract: the layout reads what has been found.
+-- `read_heads::says` meets its contract: the layout reads what has been found.
 -- Assumes nothing.
 use mathlib.Core.Path.{subst}
 use denote.Ref.{now}

@@ -9,6 +9,7 @@ use lib.Dec.{lit<, lit≤}
 use lib.ListN.{length, take, drop, getD}
 use lib.Seq.{drop-cons}
 use borrow.Author.Tests.{lt-ltb}
+use Rattle.util.specs.Limits.{least-format, most-format}
 use Rattle.util.specs.Groups.{Seven}
 use Rattle.util.proofs.Laws.Options.{not-some}
 use Rattle.messages.specs.declared.head.Head.the-variants as head
@@ -59,7 +60,7 @@ module _ (f : List ℕ) (s : Seven f) where
 
   -- ---- headers
 
-  pub header-not : (length f ≡ 28 → 8 ≤ getD f 2 0 → getD f 2 0 ≤ 28 → (t : ExtendedLoopType) → extended-loop-code t ≡ getD f 26 0 ∷ [] → ⊥)
+  pub header-not : (length f ≡ 28 → least-format ≤ getD f 2 0 → getD f 2 0 ≤ most-format → (t : ExtendedLoopType) → extended-loop-code t ≡ getD f 26 0 ∷ [] → ⊥)
       → form head.ExtendedHeader .read f ≡ none
   header-not k =
       not-some (form head.ExtendedHeader .read f)
@@ -69,13 +70,13 @@ module _ (f : List ℕ) (s : Seven f) where
       let y = ap (λ (l : List ℕ). getD l 26 0) b in
       k (sym (ap length b)) (rw x (w .0 .0 .1 .0 .0)) (rw x (w .0 .0 .1 .0 .1)) (a .loop-type) (extended-one-byte (a .loop-type) ∙ ap (λ (v : ℕ). v ∷ []) y)
 
-  pub header-reads : (t : ExtendedLoopType) → length f ≡ 28 → 8 ≤ getD f 2 0 → getD f 2 0 ≤ 28 → extended-loop-code t ≡ getD f 26 0 ∷ []
+  pub header-reads : (t : ExtendedLoopType) → length f ≡ 28 → least-format ≤ getD f 2 0 → getD f 2 0 ≤ most-format → extended-loop-code t ≡ getD f 26 0 ∷ []
       → form head.ExtendedHeader .read f
       ≡ some (record { sample = value-at 2 f 0; format = getD f 2 0; rate-whole = value-at 4 f 3; rate-fraction = value-at 4 f 7; length = value-at 5 f 11; loop-start = value-at 5 f 16; loop-end = value-at 5 f 21; loop-type = t; channels = value-at 1 f 27 })
   header-reads t n p q e =
       rw (
         unsigned-at f s 2 0 (omega arith),
-        range-at 8 28 (lit≤ tt) (lit< tt) f 2 (omega arith) p q,
+        range-at least-format most-format (lit≤ tt) (lit< tt) f 2 (omega arith) p q,
         unsigned-at f s 4 3 (omega arith),
         unsigned-at f s 4 7 (omega arith),
         unsigned-at f s 5 11 (omega arith),

@@ -4,6 +4,7 @@ use mathlib.Core.Path.{_≡_, refl}
 use mathlib.Core.List.{List, [], _∷_}
 use Prim.Native.Nat.{ℕ, _+_, _<_, _≤_}
 use lib.ListN.{length, drop, getD}
+use Rattle.util.specs.Limits.{all-loops}
 use Rattle.util.specs.Groups.{Seven}
 use Rattle.messages.specs.declared.«sample_dump».LoopType.{LoopType}
 use Rattle.messages.specs.declared.«sample_dump».LoopType.the-variants.{Forward, BiDirectional, Off}
@@ -44,6 +45,6 @@ extended-one-byte ext.BackwardOneShot = refl
 extended-one-byte ext.OneShot = refl
 
 -- a loop number, where `all` is 16,383
-pub loop-number-at : (all : LoopNumber) (e : loop-value all ≡ 16383) (f : List ℕ) → Seven f → (i : ℕ) → i + 2 ≤ length f
+pub loop-number-at : (all : LoopNumber) (e : loop-value all ≡ all-loops) (f : List ℕ) → Seven f → (i : ℕ) → i + 2 ≤ length f
     → loop-number all e .read (drop i f) ≡ got (loop-number-of all (value-at 2 f i)) (drop (i + 2) f)
 loop-number-at all e f s i n = rw (unsigned-at f s 2 i n)

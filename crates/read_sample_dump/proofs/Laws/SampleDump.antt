@@ -10,6 +10,7 @@ use native.Mathlib.Nat.{eq-or-lt-of-le}
 use native.Mathlib.Omega.{arith}
 use lib.Dec.{lit<, lit≤, eqb}
 use lib.ListN.{length, take, drop, getD}
+use Rattle.util.specs.Limits.{least-format, most-format, sample-bytes}
 use Rattle.util.specs.Groups.{Seven}
 use Rattle.util.proofs.Laws.Options.{not-some}
 use Rattle.messages.specs.declared.head.Head.the-variants as head
@@ -39,7 +40,7 @@ others h k Off e = k (first-same e)
 module _ (f : List ℕ) (s : Seven f) where
   -- ---- headers
 
-  pub header-not : (length f ≡ 16 → 8 ≤ getD f 2 0 → getD f 2 0 ≤ 28 → (t : LoopType) → loop-code t ≡ getD f 15 0 ∷ [] → ⊥)
+  pub header-not : (length f ≡ 16 → least-format ≤ getD f 2 0 → getD f 2 0 ≤ most-format → (t : LoopType) → loop-code t ≡ getD f 15 0 ∷ [] → ⊥)
       → form head.SampleDumpHeader .read f ≡ none
   header-not k =
       not-some (form head.SampleDumpHeader .read f)
@@ -49,13 +50,13 @@ module _ (f : List ℕ) (s : Seven f) where
       let y = ap (λ (l : List ℕ). getD l 15 0) b in
       k (sym (ap length b)) (rw x (w .0 .0 .1 .0 .0)) (rw x (w .0 .0 .1 .0 .1)) (a .loop-type) (one-byte (a .loop-type) ∙ ap (λ (v : ℕ). v ∷ []) y)
 
-  pub header-reads : (t : LoopType) → length f ≡ 16 → 8 ≤ getD f 2 0 → getD f 2 0 ≤ 28 → loop-code t ≡ getD f 15 0 ∷ []
+  pub header-reads : (t : LoopType) → length f ≡ 16 → least-format ≤ getD f 2 0 → getD f 2 0 ≤ most-format → loop-code t ≡ getD f 15 0 ∷ []
       → form head.SampleDumpHeader .read f
       ≡ some (record { sample = value-at 2 f 0; format = getD f 2 0; period = value-at 3 f 3; length = value-at 3 f 6; loop-start = value-at 3 f 9; loop-end = value-at 3 f 12; loop-type = t })
   header-reads t n p q e =
       rw (
         unsigned-at f s 2 0 (omega arith),
-        range-at 8 28 (lit≤ tt) (lit< tt) f 2 (omega arith) p q,
+        range-at least-format most-format (lit≤ tt) (lit< tt) f 2 (omega arith) p q,
         unsigned-at f s 3 3 (omega arith),
         unsigned-at f s 3 6 (omega arith),
         unsigned-at f s 3 9 (omega arith),
@@ -65,7 +66,7 @@ module _ (f : List ℕ) (s : Seven f) where
       )
 
   -- whether there is a header, by its loop type
-  module _ (n : length f ≡ 16) (p : 8 ≤ getD f 2 0) (q : getD f 2 0 ≤ 28) where
+  module _ (n : length f ≡ 16) (p : least-format ≤ getD f 2 0) (q : getD f 2 0 ≤ most-format) where
     abbrev header-in : Bool
     header-in = is-read (form head.SampleDumpHeader .read f)
 
@@ -85,15 +86,15 @@ module _ (f : List ℕ) (s : Seven f) where
 
   -- ---- packets
 
-  pub packet-not : (length f ≡ 121 → ⊥) → form head.SampleDumpPacket .read f ≡ none
+  pub packet-not : (length f ≡ 1 + sample-bytes → ⊥) → form head.SampleDumpPacket .read f ≡ none
   packet-not k =
       not-some (form head.SampleDumpPacket .read f)
       λ a e. let w = form head.SampleDumpPacket .only f a e in
       let n : length f ≡ suc (length (all-bytes u7 (a .samples))) = sym (ap length (w .1)) in
       k (omega (arith, bytes-length (a .samples), w .0 .0 .1 .0))
 
-  pub packet-reads : length f ≡ 121 → form head.SampleDumpPacket .read f ≡ some (record { count = value-at 1 f 0; samples = take 120 (drop 1 f) })
-  packet-reads n = rw (unsigned-at f s 1 0 (omega arith), bytes-at f s 120 1 (omega arith), none-left f 121 n)
+  pub packet-reads : length f ≡ 1 + sample-bytes → form head.SampleDumpPacket .read f ≡ some (record { count = value-at 1 f 0; samples = take sample-bytes (drop 1 f) })
+  packet-reads n = rw (unsigned-at f s 1 0 (omega arith), bytes-at f s sample-bytes 1 (omega arith), none-left f (1 + sample-bytes) n)
 
   -- ---- requests
 

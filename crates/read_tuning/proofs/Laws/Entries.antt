@@ -10,6 +10,8 @@ use lib.Dec.{eqb}
 use lib.ListN.{length, take, drop, getD, List·getD-eq-default}
 use lib.Seq.{drop-cons}
 use borrow.Author.Tests.{eqb-true}
+use Rattle.util.specs.Groups.{largest}
+use Rattle.util.specs.Limits.{no-tuning}
 use Rattle.util.specs.Groups.{Seven, value-high}
 use Rattle.util.specs.Pick.{pick}
 use Rattle.util.proofs.Laws.Groups.{both-true}
@@ -28,17 +30,17 @@ use Rattle.read_places.proofs.Laws.Numbers.{unsigned-at, high-at, value-lt, val
 -- by the test for no tuning
 named-by : (a v : ℕ) (t : Bool) → is-none (a, v) ≡ t → v < 65536 → (a * 65536 + v ≡ 8339455 → ⊥) → a * 65536 + v ≡ tuning-entry (pick t NoTuning (tuned (a, v)))
 named-by a v true e h k =
-    let z = both-true (eqb a 127) (eqb v 16383) e in
-    absurd (k (omega (arith, eqb-true a 127 (z .0), eqb-true v 16383 (z .1))))
+    let z = both-true (eqb a (largest 1)) (eqb v (largest 2)) e in
+    absurd (k (omega (arith, eqb-true a (largest 1) (z .0), eqb-true v (largest 2) (z .1))))
 named-by a v false e h k = refl
 
 pub named-other : (a v : ℕ) → v < 65536 → (a * 65536 + v ≡ 8339455 → ⊥) → a * 65536 + v ≡ tuning-entry (tuning-named (a, v))
 named-other a v h k = named-by a v (is-none (a, v)) refl h k
 
-pub named-none : (a v : ℕ) → v < 65536 → a * 65536 + v ≡ 8339455 → 16777216 ≡ tuning-entry (tuning-named (a, v))
+pub named-none : (a v : ℕ) → v < 65536 → a * 65536 + v ≡ 8339455 → no-tuning ≡ tuning-entry (tuning-named (a, v))
 named-none a v h e =
-    let x : a ≡ 127 = omega arith in
-    let y : v ≡ 16383 = omega arith in
+    let x : a ≡ largest 1 = omega arith in
+    let y : v ≡ largest 2 = omega arith in
     rw (x, y)
 
 -- ---- the two bytes of a fraction, and what is left of them at the end

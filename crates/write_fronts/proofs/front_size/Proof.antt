@@ -1,4 +1,4 @@
--- `fronts::front_size` meets its contract, message by message.
+-- `write_fronts::front_size` meets its contract, message by message.
 -- Assumes nothing.
 use borrow.Author.Needs.{needs}
 use Rattle.write_fronts.proofs.front_size.Statement.{statement}

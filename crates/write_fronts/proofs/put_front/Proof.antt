@@ -1,4 +1,4 @@
--- `fronts::put_front` meets its contract, message by message.
+-- `write_fronts::put_front` meets its contract, message by message.
 -- Assumes nothing.
 use borrow.Author.Needs.{needs}
 use Rattle.write_fronts.proofs.put_front.Statement.{statement}

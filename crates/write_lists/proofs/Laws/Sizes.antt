@@ -8,6 +8,7 @@ use native.Mathlib.Omega.{arith}
 use lib.Dec.{leb}
 use lib.ListN.{length, take, length-append, length-take, length-map}
 use borrow.Author.Tests.{leb-true}
+use Rattle.util.specs.Limits.{most-name}
 use Rattle.util.proofs.Laws.Options.{unless-none}
 use Rattle.util.specs.declared.refusal.Refusal.the-variants.{Long}
 use Rattle.messages.specs.declared.tuning.MaybeTuning.the-variants.{Tuned}
@@ -19,7 +20,7 @@ use Rattle.messages.specs.declared.«file_reference».FileReferenceMsg.{FileRef
 use Rattle.messages.specs.declared.«system_exclusive».UniversalNonRealTimeMsg.{UniversalNonRealTimeMsg}
 use Rattle.messages.specs.Refusals.{least, least-none}
 use Rattle.messages.specs.format.Core.{written}
-use Rattle.messages.specs.Fields.{u7, tuning, high, type-bytes, most-name, name-of-16, sample-name, url}
+use Rattle.messages.specs.Fields.{u7, tuning, high, type-bytes, name-of-16, sample-name, url}
 use Rattle.messages.specs.Structures.{samples, key-tuning}
 use Rattle.messages.specs.Maps.{sound-file-map}
 use Rattle.messages.specs.Entries.{tuning-of, change-of, map-of}

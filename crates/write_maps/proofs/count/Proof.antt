@@ -1,4 +1,4 @@
--- `maps::count` meets its contract: the smaller of two numbers.
+-- `write_maps::count` meets its contract: the smaller of two numbers.
 -- Assumes nothing.
 use borrow.Author.Needs.{needs}
 use Rattle.write_maps.proofs.count.Statement.{statement}

@@ -1,4 +1,4 @@
--- `maps::entry_of` meets its contract: an entry that was packed from a record says that record.
+-- `write_maps::entry_of` meets its contract: an entry that was packed from a record says that record.
 -- Assumes nothing.
 use mathlib.Core.Path.{ap, _∙_}
 use borrow.Author.Needs.{needs}

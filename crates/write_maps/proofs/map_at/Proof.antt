@@ -1,4 +1,4 @@
--- `maps::map_at` meets its contract: the record that the entry says, or the default past the end.
+-- `write_maps::map_at` meets its contract: the record that the entry says, or the default past the end.
 -- Assumes nothing.
 use mathlib.Core.Path.{_∙_, sym}
 use native.Mathlib.Omega.{arith}

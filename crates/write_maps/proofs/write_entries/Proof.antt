@@ -1,4 +1,4 @@
--- `maps::write_entries` meets its contract: `write` beside entries is writing beside the records that they say.
+-- `write_maps::write_entries` meets its contract: `write` beside entries is writing beside the records that they say.
 -- Assumes nothing.
 use mathlib.Core.Path.{sym, ap, _∙_}
 use mathlib.Core.List.{List}

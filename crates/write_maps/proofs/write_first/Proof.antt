@@ -1,4 +1,4 @@
--- `maps::write_first` meets its contract: a walk of its MIR, by hand. The records are copied to a memory slot, whose first k are lent as a `&[SoundFileMap]` for a lifetime of the call to `write_maps`,
+-- `write_maps::write_first` meets its contract: a walk of its MIR, by hand. The records are copied to a memory slot, whose first k are lent as a `&[SoundFileMap]` for a lifetime of the call to `write_maps`,
 -- of which the proof knows only that it meets its contract. `out` is given up for good. Then the slot is whole again, and freed.
 -- Assumes nothing.
 use Rattle.write_maps.proofs.Walking.{_≡_, refl, sym, ap, _∙_, subst, ℕ, _<_, _^_, min, arith, List, [], _∷_, length, take, drop, length-take-le, Holds, URA, fullShare, Ty, named, erased, imm, w64, tyRef, tyArray, Val, vint, hasTy, WT, SProp, ent, sep, emp, id⊢, via, exE}

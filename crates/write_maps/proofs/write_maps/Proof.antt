@@ -1,6 +1,7 @@
--- `maps::write_maps` meets its contract: a walk of its MIR, by hand. `count` says how many records are written. In each turn record i of the list is looked at and copied, passed by value
+-- `write_maps::write_maps` meets its contract: a walk of its MIR, by hand. `count` says how many records are written. In each turn record i of the list is looked at and copied, passed by value
 -- to `entry_of`, and the entry stored at i of a local array. `write_entries` is given the array and `out` for good. Of the callees the proof knows only that they meet their contracts.
 -- Assumes nothing.
+use Rattle.util.specs.Limits.{most-counted}
 use Rattle.write_maps.proofs.Walking.{_≡_, refl, sym, ap, _∙_, subst, Bool, ⊎-elim, WellFounded, InvImage·wf, ℕ, _+_, _-_, _<_, _≤_, _^_, min, zero-le, eq-or-lt-of-le, arith, List, [], _∷_, _++_, map, length, take, getD, set, length-set, Nat·lt-wfRel, Holds, lit<, URA, fullShare, Ty}
 use Rattle.write_maps.proofs.Walking.{named, erased, imm, mut, w64, tyBool, tyPtr, tyRef, tyArray, Val, vbool, vint, vptr, hasTy, WT, SProp, ent, sep, emp, id⊢, via, exE, fst∗, snd∗, GName, Lft, Share, ftrue, fsep, fat, fdies, flft, Memory, Routine, Heap, Out, Env}
 use Rattle.write_maps.proofs.Walking.{afterSeq, afterBlock, afterTurn, Wp, atReturn, WpFn, Tables, Atoms, sem, Fun, fact, givenOf, tables, tablesOf, Given, Item, ‵, raw, _⊛_, ⋆, some, later, runs, anyQ, atRet, Sq, _$_, _∵_, !, qed, by, move, keep, dropped, use0, use1, use3, split, join}
@@ -52,7 +53,7 @@ use Rattle.write_maps.proofs.write_maps.Code as code
 use Rattle.write_maps.proofs.write_maps.Code.Mir as pieces
 
 abbrev Held : RattleType
-Held = Array u64 127
+Held = Array u64 most-counted
 
 abbrev stayed : Stays (wm.ended .signature .params) (wm.ended .kept)
 stayed = (stay-none (λ _. D.the-row) yes, (stay-none (λ _. F.the-row) yes, (stay-none-slice (0 ∷ []) tt (plain (λ _. u8)) yes, (stay-none-slice (1 ∷ []) tt (plain (λ _. T.the-row)) yes, (gave-slice (2 ∷ []) tt (plain (λ _. u8)), (stay-none (λ _. usize) yes, tt))))))
@@ -71,14 +72,14 @@ module _ {M : Type 1} (𝓤 : URA M) (H : Heap 𝓤) (A : Atoms 𝓤) (mem : Mem
   abbrev WriteEntries : Contract 𝓤
   WriteEntries = tripleOf 𝓤 H A write-entries.signature (write-entries.spec 𝓤 H A mem run)
 
-  counted : (k r : ℕ) → ent 𝓤 (ensured 𝓤 H A count.ended (count.clauses 𝓤 H A mem run) tt (k, tt) tt r) (fact 𝓤 (r ≡ min k 127))
-  counted k r = exE 𝓤 _ (λ ws. snd∗ 𝓤 (sem 𝓤 H A (lasts count.ended tt (k, tt) ws)) (fact 𝓤 (r ≡ min k 127)))
+  counted : (k r : ℕ) → ent 𝓤 (ensured 𝓤 H A count.ended (count.clauses 𝓤 H A mem run) tt (k, tt) tt r) (fact 𝓤 (r ≡ min k most-counted))
+  counted k r = exE 𝓤 _ (λ ws. snd∗ 𝓤 (sem 𝓤 H A (lasts count.ended tt (k, tt) ws)) (fact 𝓤 (r ≡ min k most-counted)))
 
   packed : (x : SoundFileMap) (r : ℕ) → ent 𝓤 (ensured 𝓤 H A entry-of.ended (entry-of.clauses 𝓤 H A mem run) tt (x, tt) tt r) (fact 𝓤 (map-of r ≡ x))
   packed x r = exE 𝓤 _ (λ ws. snd∗ 𝓤 (sem 𝓤 H A (lasts entry-of.ended tt (x, tt) ws)) (fact 𝓤 (map-of r ≡ x)))
 
 abbrev heldTy : Ty
-heldTy = tyArray word 127
+heldTy = tyArray word most-counted
 
 abbrev urlTy : Ty
 urlTy = sliceTy (tyRef (named 0) imm byte)
@@ -96,9 +97,9 @@ module _ {M : Type 1} (𝓤 : URA M) (H : Heap 𝓤) (A : Atoms 𝓤) (W : Given
     (d : DeviceID) (is-device : Is D.the-row d (EL.val D.the-type D′.the-laws d ∷ [])) (m : FileReferenceMsg) (is-message : Is F.the-row m (EL.val F.the-type F′.the-laws m ∷ []))
     (bᵤ oᵤ : ℕ) (γᵤ : GName) (us : List ℕ) (gu : Room u8 (length us)) (b o : ℕ) (γ : GName) (ys : List SoundFileMap) (gy : Room T.the-row (length ys)) (b′ o′ : ℕ) (γ′ : GName) (zs : List ℕ) (gz : Room u8 (length zs)) (p : ℕ) (p-fits : p < 2 ^ 64) where
   abbrev n : ℕ
-  n = min (length ys) 127
+  n = min (length ys) most-counted
 
-  n-few : n ≤ 127
+  n-few : n ≤ most-counted
   n-few = omega arith
 
   n-fits : n < 2 ^ 64
@@ -165,7 +166,7 @@ module _ {M : Type 1} (𝓤 : URA M) (H : Heap 𝓤) (A : Atoms 𝓤) (W : Given
   ev es = only (array-vals (uint-vals w64) es)
 
   held-typed : (es : List ℕ) (v : Val) → Is Held es (v ∷ []) → Holds (hasTy heldTy v) × WT v
-  held-typed es v is = array-typed u64 (uint-lawful 𝓤 H A W w64 .typed) 127 es (v ∷ []) is .0
+  held-typed es v is = array-typed u64 (uint-lawful 𝓤 H A W w64 .typed) most-counted es (v ∷ []) is .0
 
   -- the calls: what each triple binds outside, and that the caller has what it asks
   abbrev to-count : Count 𝓤 H A mem run .Ghost
@@ -192,7 +193,7 @@ module _ {M : Type 1} (𝓤 : URA M) (H : Heap 𝓤) (A : Atoms 𝓤) (W : Given
   goes-write : (es : List ℕ) (v : Val) → Is Held es (v ∷ []) → ent 𝓤 (sep 𝓤 (sep 𝓤 (A .lft κᵤ qᵤ) (sep 𝓤 (A .lft κ′ q′) (sem 𝓤 H A ftrue))) (sep 𝓤 (sem 𝓤 H A (ShrSlice (named 0) κᵤ u8 .own url (uv ∷ []))) (sem 𝓤 H A (MutSlice (named 1) κ′ u8 .own out (zv ∷ []))))) (WriteEntries 𝓤 H A mem run .pre (to-write es v))
   goes-write es v is =
       qed W ((‵ (flft κᵤ qᵤ) ⊛ (‵ (flft κ′ q′) ⊛ ‵ ftrue)) ∷ Url ∷ Mut ∷ []) ∵ says ! n-few $ frame ! $ nothing ! $ owned ! usize (Is usize) (uint-makes 𝓤 H A W w64) p _ (refl, p-fits) $ fjoin ! $ move ! (2 ∷ 0 ∷ []) $ fjoin ! $
-      owned ! usize (Is usize) (uint-makes 𝓤 H A W w64) n _ (refl, n-fits) $ fjoin ! $ owned ! Held (Is Held) (array-makes 𝓤 H A W u64 (uint-makes 𝓤 H A W w64) 127) es _ is $ fjoin ! $ move ! (1 ∷ 0 ∷ []) $ fjoin ! $
+      owned ! usize (Is usize) (uint-makes 𝓤 H A W w64) n _ (refl, n-fits) $ fjoin ! $ owned ! Held (Is Held) (array-makes 𝓤 H A W u64 (uint-makes 𝓤 H A W w64) most-counted) es _ is $ fjoin ! $ move ! (1 ∷ 0 ∷ []) $ fjoin ! $
       owned ! F.the-row (Is F.the-row) (EL.makes F.the-type F′.the-plain 𝓤 H A) m _ is-message $ fjoin ! $ owned ! D.the-row (Is D.the-row) (EL.makes D.the-type D′.the-plain 𝓤 H A) d _ is-device $ fjoin ! $ done !
 
   -- the answer and the bytes, for the records ms
@@ -209,7 +210,7 @@ module _ {M : Type 1} (𝓤 : URA M) (H : Heap 𝓤) (A : Atoms 𝓤) (W : Given
 
   -- the loop's variant: i records are held, in the entries es
   abbrev Upto : Type 0
-  Upto = (i : ℕ) × (es : List ℕ) × (i ≤ n) × (length es ≡ 127) × (map map-of (take i es) ≡ take i ys)
+  Upto = (i : ℕ) × (es : List ℕ) × (i ≤ n) × (length es ≡ most-counted) × (map map-of (take i es) ≡ take i ys)
 
   abbrev Nearer : Upto → Upto → Type 0
   Nearer v u = n - v .0 < n - u .0
@@ -246,9 +247,9 @@ module _ {M : Type 1} (𝓤 : URA M) (H : Heap 𝓤) (A : Atoms 𝓤) (W : Given
           rewrite ! 22 (λ (t : Bool). ‵ (fat fullShare tyBool l₁₂ 0 (vbool t))) (le-ltb (u .0) n (omega arith)) refl $
           leaves-loop ! (load ! (from ! (stop !)) (look ! 22 refl)) $ exec ! (𝓣 .C) (𝓣 .Λ) En pieces.t-7 (atRet En Post) $
           -- the row is an array again, and its value is copied: [_8; the list's token; out's token; Shr; Mut; _21; …; _9; …; (_8's right to be freed); _7; …]
-          move ! (30 ∷ []) $ feqI ! ℕ (length es) 127 (u .3) $ fjoin ! $ use1 W (‵ (partAt Held fullShare es l₈ 0)) (array-whole 𝓤 H A W u64 fullShare 127 es l₈ 0) $
+          move ! (30 ∷ []) $ feqI ! ℕ (length es) most-counted (u .3) $ fjoin ! $ use1 W (‵ (partAt Held fullShare es l₈ 0)) (array-whole 𝓤 H A W u64 fullShare most-counted es l₈ 0) $
           fpick ! (λ cs. fsplit ! $ move ! (1 ∷ []) $ peeks ! Held (Is Held) (shows 𝓤 H A Held) es cs (λ a. dropped ! $
-          let told : cs ≡ ev es ∷ [] = array-tells u64 (uint-vals w64) (uint-tells w64) 127 es cs a in
+          let told : cs ≡ ev es ∷ [] = array-tells u64 (uint-vals w64) (uint-tells w64) most-counted es cs a in
           let held : Is Held es (ev es ∷ []) = subst (λ (cs′ : List Val). Is Held es cs′) told a in
           rewrite ! 0 (λ (cs′ : List Val). ‵ (cellAt fullShare (Held .mir) cs′ l₈ 0)) told refl $ use1 W (‵ (fat fullShare heldTy l₈ 0 (ev es))) (W .laws .raw-at fullShare heldTy l₈ 0 (ev es)) $
           assigns ! (of-opd ! (load ! (from ! (stop !)) (look ! 0 refl))) (from ! (stop !)) (init ! 25 refl (held-typed es (ev es) held)) $
@@ -316,7 +317,7 @@ module _ {M : Type 1} (𝓤 : URA M) (H : Heap 𝓤) (A : Atoms 𝓤) (W : Given
       turns : (u : Upto) → Sq W (At u) (runs (𝓣 .C) (𝓣 .Λ) En pieces.turn-1 (anyQ (Turned u)))
       turns u = ⊎-elim (ends u) (more u) (eq-or-lt-of-le (u .2))
 
-      loop-runs : (es : List ℕ) (long : length es ≡ 127) → Sq W (At (0, es, zero-le, long, refl)) (runs (𝓣 .C) (𝓣 .Λ) En pieces.t-6 (atRet En Post))
+      loop-runs : (es : List ℕ) (long : length es ≡ most-counted) → Sq W (At (0, es, zero-le, long, refl)) (runs (𝓣 .C) (𝓣 .Λ) En pieces.t-6 (atRet En Post))
       loop-runs es long = first ! $ blocks ! $ loops ! 𝓣 Nearer Nearer-wf At turns (0, es, zero-le, long, refl)
 
     walk : ent 𝓤 (onEntry 𝓤 H A wm.signature (κᵤ, (κ, (κ′, tt))) (qᵤ, (q, (q′, tt))) x vs) (WpFn 𝓤 H (𝓣 .C) (𝓣 .Λ) code.function (dv ∷ mv ∷ uv ∷ yv ∷ zv ∷ vint w64 p ∷ []) Post)
@@ -344,7 +345,7 @@ module _ {M : Type 1} (𝓤 : URA M) (H : Heap 𝓤) (A : Atoms 𝓤) (W : Given
         assigns ! (of-opd ! (load ! (from ! (stop !)) (look ! 21 refl))) (from ! (stop !)) (init ! 27 refl (held-typed es v held)) $
         assigns ! (of-opd ! (lit ! tt)) (from ! (stop !)) (init ! 25 refl (tt, record { fits = lit< tt })) $ forget ! 21 refl $
         move ! (27 ∷ 0 ∷ []) $ use1 W (‵ (cellAt fullShare (Held .mir) (v ∷ []) l₈ 0)) (W .laws .at-raw fullShare heldTy l₈ 0 v) $ fjoin ! $ fpack ! (List Val) (λ cs. fsep (cellAt fullShare (Held .mir) cs l₈ 0) (Held .own es cs)) (v ∷ []) $
-        use1 W (‵ (arr-parts (shares u64) 127 .part fullShare es l₈ 0)) (array-apart 𝓤 H A W u64 fullShare tt 127 es l₈ 0) $ fsplit ! $ dropped ! $
+        use1 W (‵ (arr-parts (shares u64) most-counted .part fullShare es l₈ 0)) (array-apart 𝓤 H A W u64 fullShare tt most-counted es l₈ 0) $ fsplit ! $ dropped ! $
         -- [the row; _21; …; _9; …; (_8's right to be freed); _7; …; the tokens; what the parameters own]
         move ! (44 ∷ []) $ split ! $ move ! (1 ∷ []) $ split ! $ move ! (1 ∷ []) $ split ! $ move ! (48 ∷ []) $ fsplit ! $ move ! (1 ∷ []) $ fsplit ! $ move ! (1 ∷ []) $ fsplit ! $ move ! (1 ∷ []) $ fsplit ! $ move ! (1 ∷ []) $ fsplit ! $
         -- [Mut; place's; Shr; Url; m's; device's; out's token; true; the list's token; the URL's token; the row; _21; …]

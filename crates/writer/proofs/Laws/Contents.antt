@@ -11,6 +11,7 @@ use lib.Dec.{leb}
 use lib.ListN.{length, drop, getD, drop-of-length-le}
 use lib.Seq.{drop-cons}
 use borrow.Author.Tests.{lt-ltb, le-ltb}
+use Rattle.util.specs.Limits.{most-changes}
 use Rattle.util.specs.Pick.{pick}
 use Rattle.util.specs.Options.{unless}
 use Rattle.util.specs.declared.refusal.Refusal.the-variants.{High, Long, Value}
@@ -27,7 +28,6 @@ use Rattle.messages.specs.declared.«file_reference».SelectMap.the-variants as
 use Rattle.messages.specs.Refusals.{least}
 use Rattle.messages.specs.format.Texts.{is-text}
 use Rattle.messages.specs.Fields.{high}
-use Rattle.messages.specs.Structures.{most-changes}
 use Rattle.messages.specs.Maps.{AnySelect, bankSelect, wavSelect}
 use Rattle.messages.specs.Entries.{change-of}
 use Rattle.messages.specs.Contents.{contents, longer, other-kind}

@@ -16,7 +16,8 @@ use Rattle.messages.specs.declared.«sample_dump».ExtendedLoopType.the-variant
 use Rattle.messages.specs.format.Texts.{lookup-same}
 use Rattle.messages.specs.Fields.{device-byte, device-of, device-same, loop-value, loop-same, Four, type-chars, type-of, same-four, custom-type, same-four-true, named-types}
 use Rattle.messages.specs.Structures.{loop-code, extended-loop-code}
-use Rattle.write_fronts.specs.Fronts.{loop-byte, extended-loop-byte, clamp}
+use Rattle.messages.specs.Structures.{loop-byte, extended-loop-byte}
+use Rattle.write_fronts.specs.Fronts.{clamp}
 
 -- a byte of at most 127 is its own group
 pub low-same : (v : ℕ) → v ≤ 127 → min v 127 % 128 ≡ v

@@ -8,6 +8,7 @@ use native.Mathlib.Omega.{arith}
 use lib.Dec.{leb}
 use lib.ListN.{length}
 use borrow.Author.Tests.{leb-true}
+use Rattle.util.specs.Limits.{most-name}
 use Rattle.util.specs.Options.{unless}
 use Rattle.util.proofs.Laws.Options.{unless-none}
 use Rattle.util.specs.declared.refusal.Refusal.the-variants.{Long}
@@ -24,7 +25,7 @@ use Rattle.messages.specs.declared.«file_reference».FileReferenceMsg.the-vari
 use Rattle.messages.specs.declared.«system_exclusive».UniversalNonRealTimeMsg.{UniversalNonRealTimeMsg}
 use Rattle.messages.specs.declared.«system_exclusive».UniversalNonRealTimeMsg.the-variants as msg
 use Rattle.messages.specs.Refusals.{least, least-none}
-use Rattle.messages.specs.Fields.{high, type-bytes, most-name}
+use Rattle.messages.specs.Fields.{high, type-bytes}
 use Rattle.messages.specs.Entries.{change-of}
 use Rattle.messages.specs.Contents.{contents, too-large, longer}
 use Rattle.messages.specs.MessageOf.{headOf, fieldsOf, head-file, fields-file}

@@ -8,6 +8,7 @@ use Prim.Native.Nat.{ℕ}
 use native.Mathlib.Omega.{arith}
 use lib.Dec.{leb}
 use lib.ListN.{length}
+use Rattle.util.specs.Limits.{most-data, most-name, most-changes}
 use Rattle.util.specs.Fields.{fits-u28}
 use Rattle.util.specs.Groups.{seven}
 use Rattle.util.specs.Options.{unless}
@@ -22,10 +23,8 @@ use Rattle.messages.specs.declared.«file_reference».FileReferenceType.the-var
 use Rattle.messages.specs.declared.«system_exclusive».ManufacturerID.{ManufacturerID}
 use Rattle.messages.specs.declared.«system_exclusive».ManufacturerID.the-variants.{OneByte, Extended}
 use Rattle.messages.specs.Refusals.{rank, least}
-use Rattle.messages.specs.format.Packed.{most-data}
 use Rattle.messages.specs.format.Texts.{is-text}
-use Rattle.messages.specs.Fields.{high, type-bytes, most-name}
-use Rattle.messages.specs.Structures.{most-changes}
+use Rattle.messages.specs.Fields.{high, type-bytes}
 use Rattle.messages.specs.Maps.{AnySelect, bankSelect, wavSelect}
 use Rattle.messages.specs.Layouts.{Fields}
 use Rattle.messages.specs.Messages.{refusal-number}

@@ -1,4 +1,4 @@
--- `desk_numbers::cents::point` meets its contract. The invariant: the place is within the word.
+-- `desk_decimals::cents::point` meets its contract. The invariant: the place is within the word.
 -- Assumes nothing.
 use lib.ListN.{length}
 use Prim.Native.Nat.{_≤_, _-_}

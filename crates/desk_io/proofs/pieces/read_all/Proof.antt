@@ -1,4 +1,4 @@
--- `desk_pieces::pieces::read_all` meets its contract. The invariant: what is read is within the buffer, which keeps its length.
+-- `desk_io::pieces::read_all` meets its contract. The invariant: what is read is within the buffer, which keeps its length.
 -- Assumes nothing.
 use borrow.Author.Needs.{needs}
 use mathlib.Core.Path.{_≡_}

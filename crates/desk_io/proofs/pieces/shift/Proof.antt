@@ -1,4 +1,4 @@
--- `desk_pieces::pieces::shift` meets its contract. The invariant: each byte before i is the one of its place, and each byte from i on is as it was.
+-- `desk_io::pieces::shift` meets its contract. The invariant: each byte before i is the one of its place, and each byte from i on is as it was.
 -- Assumes nothing.
 use borrow.Author.Needs.{needs}
 use mathlib.Core.Path.{_≡_, refl, _∙_}

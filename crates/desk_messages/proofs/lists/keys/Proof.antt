@@ -1,4 +1,4 @@
--- `desk_words::lists::keys` is safe and ends. The invariant: the place is within the entries.
+-- `desk_messages::lists::keys` is safe and ends. The invariant: the place is within the entries.
 -- Assumes nothing.
 use lib.ListN.{length}
 use Prim.Native.Nat.{_≤_, _-_}

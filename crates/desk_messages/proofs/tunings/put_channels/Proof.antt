@@ -1,4 +1,4 @@
--- `desk_words::tunings::put_channels` is safe and ends. The invariant: at most sixteen channels are passed.
+-- `desk_messages::tunings::put_channels` is safe and ends. The invariant: at most sixteen channels are passed.
 -- Assumes nothing.
 use Prim.Native.Nat.{_≤_, _-_}
 use borrow.Author.Needs.{needs}

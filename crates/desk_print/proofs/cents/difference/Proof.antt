@@ -1,4 +1,4 @@
--- `desk_say::cents::difference` meets its contract, by the test of the two numbers.
+-- `desk_print::cents::difference` meets its contract, by the test of the two numbers.
 -- Assumes nothing.
 use borrow.Author.Needs.{needs}
 use borrow.Author.Tests.{lt-ltb, le-ltb}

@@ -1,4 +1,4 @@
--- `desk_say::names::without_spaces` meets its contract. The invariant: the number is within the bytes.
+-- `desk_print::names::without_spaces` meets its contract. The invariant: the number is within the bytes.
 -- Assumes nothing.
 use lib.ListN.{length}
 use Prim.Native.Nat.{_≤_}

@@ -1,4 +1,4 @@
--- `to_numbers::file_reference::put_open_select` meets its contract: the numbers of the map come after the context and the type.
+-- `numbers_of_message::file_reference::put_open_select` meets its contract: the numbers of the map come after the context and the type.
 -- Assumes nothing.
 use borrow.Author.Needs.{needs}
 use Rattle.numbers_of_message.proofs.file_reference.put_open_select.Statement.{statement}

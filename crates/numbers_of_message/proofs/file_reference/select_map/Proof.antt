@@ -1,4 +1,4 @@
--- `to_numbers::file_reference::select_map` meets its contract: each form has its ten numbers.
+-- `numbers_of_message::file_reference::select_map` meets its contract: each form has its ten numbers.
 -- Assumes nothing.
 use borrow.Author.Needs.{needs}
 use Rattle.numbers_of_message.proofs.file_reference.select_map.Statement.{statement}

@@ -1,4 +1,4 @@
--- `to_numbers::file_reference::wav_map` meets its contract: the fine tuning is the number of a signed value.
+-- `numbers_of_message::file_reference::wav_map` meets its contract: the fine tuning is the number of a signed value.
 -- Assumes nothing.
 use mir.Syntax.{w16}
 use Rattle.numbers_of_message.proofs.Laws.{signed-read}

@@ -1,4 +1,4 @@
--- `to_numbers::identity::put_reply` meets its contract, message by message.
+-- `numbers_of_message::identity::put_reply` meets its contract, message by message.
 -- Assumes nothing.
 use borrow.Author.Needs.{needs}
 use Rattle.numbers_of_message.proofs.identity.put_reply.Statement.{statement}

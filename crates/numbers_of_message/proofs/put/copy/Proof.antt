@@ -1,4 +1,4 @@
--- `to_numbers::put::copy` meets its contract. The invariant: the stores that are left, made on what is there, give what all stores give.
+-- `numbers_of_message::put::copy` meets its contract. The invariant: the stores that are left, made on what is there, give what all stores give.
 -- Assumes nothing.
 use borrow.Author.Needs.{needs}
 use mathlib.Core.Path.{_≡_, refl, _∙_}

@@ -1,4 +1,4 @@
--- `to_numbers::put::put` meets its contract: where the slice is shorter nothing is written.
+-- `numbers_of_message::put::put` meets its contract: where the slice is shorter nothing is written.
 -- Assumes nothing.
 use mathlib.Core.Path.{refl}
 use borrow.Author.Tests.{lt-leb, le-leb}

@@ -1,4 +1,4 @@
--- `to_numbers::put::put_both` meets its contract: the second slice goes where the first ends.
+-- `numbers_of_message::put::put_both` meets its contract: the second slice goes where the first ends.
 -- Assumes nothing.
 use mathlib.Core.Path.{refl, sym}
 use denote.Ref.{now}

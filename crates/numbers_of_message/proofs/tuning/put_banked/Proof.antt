@@ -1,4 +1,4 @@
--- `to_numbers::tuning::put_banked` meets its contract, message by message.
+-- `numbers_of_message::tuning::put_banked` meets its contract, message by message.
 -- Assumes nothing.
 use borrow.Author.Needs.{needs}
 use Rattle.numbers_of_message.proofs.tuning.put_banked.Statement.{statement}

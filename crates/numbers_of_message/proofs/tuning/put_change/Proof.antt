@@ -1,4 +1,4 @@
--- `to_numbers::tuning::put_change` meets its contract: the bank is a number.
+-- `numbers_of_message::tuning::put_change` meets its contract: the bank is a number.
 -- Assumes nothing.
 use borrow.Author.Needs.{needs}
 use Rattle.numbers_of_message.proofs.tuning.put_change.Statement.{statement}

@@ -1,4 +1,4 @@
--- `to_numbers::tuning::put_dump_2` meets its contract: the numbers of the scale come after the bank and the program.
+-- `numbers_of_message::tuning::put_dump_2` meets its contract: the numbers of the scale come after the bank and the program.
 -- Assumes nothing.
 use borrow.Author.Needs.{needs}
 use Rattle.numbers_of_message.proofs.tuning.put_dump_2.Statement.{statement}

@@ -1,4 +1,4 @@
--- `to_numbers::values::signed_16` meets its contract: below 0 it is 2^64 - 1 less what -1 exceeds the value by.
+-- `numbers_of_message::values::signed_16` meets its contract: below 0 it is 2^64 - 1 less what -1 exceeds the value by.
 -- Assumes nothing.
 use lib.Dec.{lit≤}
 use mir.Syntax.{w16}

@@ -1,4 +1,4 @@
--- `to_numbers::values::type_number` meets its contract: the number is that of the four letters.
+-- `numbers_of_message::values::type_number` meets its contract: the number is that of the four letters.
 -- Assumes nothing.
 use mathlib.Core.Path.{ap}
 use Prim.Native.Nat.{_+_, _*_}

@@ -1,4 +1,4 @@
--- `numbers::file_reference::wav_map` meets its contract: each field is the value of its number.
+-- `numbers_to_message::file_reference::wav_map` meets its contract: each field is the value of its number.
 -- Assumes nothing.
 use mathlib.Core.Path.{_≡_}
 use mir.Syntax.{w16}

@@ -1,4 +1,4 @@
--- `numbers::fit::fits_row` meets its contract: the numbers that are left fit the types that are left just where all fit all.
+-- `numbers_to_message::fit::fits_row` meets its contract: the numbers that are left fit the types that are left just where all fit all.
 -- Assumes nothing.
 use borrow.Author.Tests.{not-true, not-false}
 use borrow.Author.Needs.{needs}

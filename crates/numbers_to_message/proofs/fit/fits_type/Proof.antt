@@ -1,4 +1,4 @@
--- `numbers::fit::fits_type` meets its contract: each arm is the test of its type.
+-- `numbers_to_message::fit::fits_type` meets its contract: each arm is the test of its type.
 -- Assumes nothing.
 use mathlib.Core.Path.{refl, _∙_}
 use lib.Dec.{ltb, eqb}

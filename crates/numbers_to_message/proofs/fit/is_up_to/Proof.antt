@@ -1,4 +1,4 @@
--- `numbers::fit::is_up_to` meets its contract: the tests are those of the definition.
+-- `numbers_to_message::fit::is_up_to` meets its contract: the tests are those of the definition.
 -- Assumes nothing.
 use borrow.Author.Tests.{eq-eqb, ne-eqb}
 use Rattle.numbers_to_message.proofs.fit.is_up_to.Statement.{statement}

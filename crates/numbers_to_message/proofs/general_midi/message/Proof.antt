@@ -1,4 +1,4 @@
--- `numbers::general_midi::message` meets its contract: each arm is that of its head code.
+-- `numbers_to_message::general_midi::message` meets its contract: each arm is that of its head code.
 -- Assumes nothing.
 use borrow.Author.Tests.{ne-eqb}
 use Rattle.numbers_to_message.proofs.general_midi.message.Statement.{statement}

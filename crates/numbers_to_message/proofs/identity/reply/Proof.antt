@@ -1,4 +1,4 @@
--- `numbers::identity::reply` meets its contract: each field is the value of its number.
+-- `numbers_to_message::identity::reply` meets its contract: each field is the value of its number.
 -- Assumes nothing.
 use borrow.Author.Needs.{needs}
 use Rattle.numbers_to_message.proofs.identity.reply.Statement.{statement}

@@ -1,4 +1,4 @@
--- `numbers::tuning::scale_tuning_2` meets its contract: each field is the value of its number.
+-- `numbers_to_message::tuning::scale_tuning_2` meets its contract: each field is the value of its number.
 -- Assumes nothing.
 use borrow.Author.Needs.{needs}
 use Rattle.numbers_to_message.proofs.tuning.scale_tuning_2.Statement.{statement}

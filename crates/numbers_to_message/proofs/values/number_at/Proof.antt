@@ -1,4 +1,4 @@
--- `numbers::values::number_at` meets its contract: past the end the list has 0.
+-- `numbers_to_message::values::number_at` meets its contract: past the end the list has 0.
 -- Assumes nothing.
 use mathlib.Core.Path.{sym}
 use lib.ListN.{List·getD-eq-default}

@@ -1,4 +1,4 @@
--- `numbers::values::spelled_of` meets its contract: the tests are those of the definition.
+-- `numbers_to_message::values::spelled_of` meets its contract: the tests are those of the definition.
 -- Assumes nothing.
 use borrow.Author.Tests.{ne-eqb}
 use borrow.Author.Needs.{needs}

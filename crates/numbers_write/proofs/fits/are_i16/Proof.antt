@@ -1,4 +1,4 @@
--- `write_numbers::fits::are_i16` meets its contract: the numbers that are left fit just where all fit.
+-- `numbers_write::fits::are_i16` meets its contract: the numbers that are left fit just where all fit.
 -- Assumes nothing.
 use mathlib.Core.Path.{_≡_, refl, sym, _∙_}
 use Prim.Native.Nat.{_+_, _-_, _≤_}

@@ -1,4 +1,4 @@
--- `write_numbers::fits::is_header` meets its contract: a test for each number, in their order.
+-- `numbers_write::fits::is_header` meets its contract: a test for each number, in their order.
 -- Assumes nothing.
 use mathlib.Core.Path.{_∙_}
 use denote.Ref.{now}

@@ -1,4 +1,4 @@
--- `write_numbers::fits::is_one_byte` meets its contract: a test for each number, in their order.
+-- `numbers_write::fits::is_one_byte` meets its contract: a test for each number, in their order.
 -- Assumes nothing.
 use mathlib.Core.List.{[], _∷_}
 use lib.ListN.{getD}

@@ -1,4 +1,4 @@
--- `write_numbers::fits::is_scale_dump_2` meets its contract: a test for each number, in their order.
+-- `numbers_write::fits::is_scale_dump_2` meets its contract: a test for each number, in their order.
 -- Assumes nothing.
 use native.Mathlib.Omega.{arith}
 use lib.ListN.{length}

@@ -1,4 +1,4 @@
--- `write_numbers::sample_dump::put_header` meets its contract: its three writes, one after the other from the front, are the frame's parts.
+-- `numbers_write::sample_dump::put_header` meets its contract: its three writes, one after the other from the front, are the frame's parts.
 -- Assumes nothing.
 use mathlib.Core.Path.{refl}
 use mathlib.Core.List.{List, [], _∷_, _++_}

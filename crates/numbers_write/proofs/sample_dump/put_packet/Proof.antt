@@ -1,4 +1,4 @@
--- `write_numbers::sample_dump::put_packet` meets its contract: its five writes, one after the other from the front, are the frame's parts.
+-- `numbers_write::sample_dump::put_packet` meets its contract: its five writes, one after the other from the front, are the frame's parts.
 -- Assumes nothing.
 use mathlib.Core.Path.{_≡_, refl, ap, _∙_}
 use mathlib.Core.List.{List, [], _∷_, _++_}

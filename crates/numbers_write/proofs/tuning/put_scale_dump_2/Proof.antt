@@ -1,4 +1,4 @@
--- `write_numbers::tuning::put_scale_dump_2` meets its contract: its five writes, one after the other from the front, are the frame's parts.
+-- `numbers_write::tuning::put_scale_dump_2` meets its contract: its five writes, one after the other from the front, are the frame's parts.
 -- Assumes nothing.
 use mathlib.Core.Path.{_≡_, refl, ap, _∙_}
 use mathlib.Core.List.{List, [], _∷_, _++_}

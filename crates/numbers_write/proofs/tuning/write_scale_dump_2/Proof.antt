@@ -1,4 +1,4 @@
--- `write_numbers::tuning::write_scale_dump_2` meets its contract: HIGH for the name, without room SPACE, with room the frame at the place.
+-- `numbers_write::tuning::write_scale_dump_2` meets its contract: HIGH for the name, without room SPACE, with room the frame at the place.
 -- Assumes nothing.
 use mathlib.Core.List.{List}
 use mathlib.Core.Path.{_≡_, refl, sym, _∙_}

@@ -1,4 +1,4 @@
--- `boundary::identity::put_reply` meets its contract: the numbers behind head code and device.
+-- `pasoreum::identity::put_reply` meets its contract: the numbers behind head code and device.
 -- Assumes nothing.
 use mathlib.Core.Path.{sym}
 use mathlib.Core.List.{List}

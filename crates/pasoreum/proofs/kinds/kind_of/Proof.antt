@@ -1,4 +1,4 @@
--- `boundary::kinds::kind_of` meets its contract.
+-- `pasoreum::kinds::kind_of` meets its contract.
 -- Assumes nothing.
 use borrow.Author.Tests.{ne-eqb}
 use Rattle.pasoreum.specs.Kinds.{kind-of}

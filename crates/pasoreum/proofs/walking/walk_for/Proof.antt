@@ -1,4 +1,4 @@
--- `boundary::walking::walk_for` meets its contract: the walk's answer in numbers.
+-- `pasoreum::walking::walk_for` meets its contract: the walk's answer in numbers.
 -- Assumes nothing.
 use mathlib.Core.Path.{sym, ap, _∙_}
 use Rattle.walk.specs.Answer.{walked-number, walked-value}

@@ -1,4 +1,4 @@
--- `reading::heads::head_at` meets its contract: each arm is the head of its first byte, or of both.
+-- `read_places::heads::head_at` meets its contract: each arm is the head of its first byte, or of both.
 -- Assumes nothing.
 use mathlib.Core.Path.{sym, ap, _∙_}
 use Prim.Native.Nat.{ℕ}

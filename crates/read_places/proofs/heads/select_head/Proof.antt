@@ -1,4 +1,4 @@
--- `reading::heads::select_head` meets its contract: the head of the kind.
+-- `read_places::heads::select_head` meets its contract: the head of the kind.
 -- Assumes nothing.
 use borrow.Author.Needs.{needs}
 use Rattle.read_places.proofs.heads.select_head.Statement.{statement}

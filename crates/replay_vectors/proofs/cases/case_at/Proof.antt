@@ -1,4 +1,4 @@
--- `vectors::cases::case_at` meets its contract: what is asked, and the answer where that ends, are the case.
+-- `replay_vectors::cases::case_at` meets its contract: what is asked, and the answer where that ends, are the case.
 -- Assumes nothing.
 use Rattle.replay_vectors.proofs.Laws.{asked-in, answer-in, both-in}
 use borrow.Author.Needs.{needs}

@@ -1,4 +1,4 @@
--- `vectors::fit::to_u32` meets its contract: the test is that of the definition.
+-- `replay_vectors::fit::to_u32` meets its contract: the test is that of the definition.
 -- Assumes nothing.
 use borrow.Author.Needs.{needs}
 use borrow.Author.Tests.{lt-ltb, le-ltb}

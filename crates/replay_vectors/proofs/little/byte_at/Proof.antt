@@ -1,4 +1,4 @@
--- `vectors::little::byte_at` meets its contract: an element of the slice is a byte.
+-- `replay_vectors::little::byte_at` meets its contract: an element of the slice is a byte.
 -- Assumes nothing.
 use native.Mathlib.Omega.{arith}
 use borrow.Author.Needs.{needs}

@@ -1,4 +1,4 @@
--- `vectors::little::read_numbers` meets its contract. The invariant: each number passed is the one of its eight bytes.
+-- `replay_vectors::little::read_numbers` meets its contract. The invariant: each number passed is the one of its eight bytes.
 -- Assumes nothing.
 use borrow.Author.Needs.{needs}
 use Prim.Native.Nat.{ℕ, _+_, _*_, _≤_, _<_, _-_}

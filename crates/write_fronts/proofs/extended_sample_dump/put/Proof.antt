@@ -1,4 +1,4 @@
--- `fronts::extended_sample_dump::put` meets its contract, message by message.
+-- `write_fronts::extended_sample_dump::put` meets its contract, message by message.
 -- Assumes nothing.
 use borrow.Author.Needs.{needs}
 use Rattle.write_fronts.proofs.extended_sample_dump.put.Statement.{statement}

@@ -1,4 +1,4 @@
--- `fronts::extended_sample_dump::put_header` meets its contract: its two writes are the fields up to the rate and those after it.
+-- `write_fronts::extended_sample_dump::put_header` meets its contract: its two writes are the fields up to the rate and those after it.
 -- Assumes nothing.
 use mathlib.Core.Path.{refl}
 use mathlib.Core.List.{List, [], _∷_}
@@ -7,7 +7,8 @@ use native.Mathlib.Omega.{arith}
 use denote.Ref.{now}
 use borrow.Author.Needs.{needs}
 use Rattle.util.proofs.Laws.Splice.{Run, run-part}
-use Rattle.write_fronts.specs.Fronts.{clamp, extended-loop-byte, spell, start-2}
+use Rattle.messages.specs.Structures.{extended-loop-byte}
+use Rattle.write_fronts.specs.Fronts.{clamp, spell, start-2}
 use Rattle.write_fronts.proofs.extended_sample_dump.put_header.Statement.{statement}
 use Rattle.write_fronts.proofs.extended_sample_dump.put_header.Tie as tie
 

@@ -1,4 +1,4 @@
--- `fronts::file_dump::put_request` meets its contract: the bytes are those of the fields, each value held to its groups.
+-- `write_fronts::file_dump::put_request` meets its contract: the bytes are those of the fields, each value held to its groups.
 -- Assumes nothing.
 use mathlib.Core.Path.{ap, _∙_}
 use denote.Ref.{now}

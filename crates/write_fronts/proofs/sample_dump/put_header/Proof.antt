@@ -1,4 +1,4 @@
--- `fronts::sample_dump::put_header` meets its contract, message by message.
+-- `write_fronts::sample_dump::put_header` meets its contract, message by message.
 -- Assumes nothing.
 use mathlib.Core.Path.{ap, _∙_}
 use denote.Ref.{now}

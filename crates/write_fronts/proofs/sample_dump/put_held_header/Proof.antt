@@ -1,4 +1,4 @@
--- `fronts::sample_dump::put_held_header` meets its contract: the bytes are the groups of the values.
+-- `write_fronts::sample_dump::put_held_header` meets its contract: the bytes are the groups of the values.
 -- Assumes nothing.
 use borrow.Author.Needs.{needs}
 use Rattle.write_fronts.proofs.sample_dump.put_held_header.Statement.{statement}

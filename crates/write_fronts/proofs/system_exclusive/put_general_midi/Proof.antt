@@ -1,4 +1,4 @@
--- `fronts::system_exclusive::put_general_midi` meets its contract, message by message.
+-- `write_fronts::system_exclusive::put_general_midi` meets its contract, message by message.
 -- Assumes nothing.
 use borrow.Author.Needs.{needs}
 use Rattle.write_fronts.proofs.system_exclusive.put_general_midi.Statement.{statement}

@@ -1,4 +1,4 @@
--- `fronts::system_exclusive::put_one_byte_reply` meets its contract: the bytes are those of the fields, each value held to its groups.
+-- `write_fronts::system_exclusive::put_one_byte_reply` meets its contract: the bytes are those of the fields, each value held to its groups.
 -- Assumes nothing.
 use mathlib.Core.Path.{ap, _∙_}
 use denote.Ref.{now}

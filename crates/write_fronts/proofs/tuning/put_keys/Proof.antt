@@ -1,4 +1,4 @@
--- `fronts::tuning::put_keys` meets its contract, message by message.
+-- `write_fronts::tuning::put_keys` meets its contract, message by message.
 -- Assumes nothing.
 use borrow.Author.Needs.{needs}
 use Rattle.write_fronts.proofs.tuning.put_keys.Statement.{statement}

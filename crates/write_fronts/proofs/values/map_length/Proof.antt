@@ -1,4 +1,4 @@
--- `fronts::values::map_length` meets its contract: each map has the length that is defined for it.
+-- `write_fronts::values::map_length` meets its contract: each map has the length that is defined for it.
 use borrow.Author.Needs.{needs}
 use Rattle.write_fronts.proofs.values.map_length.Statement.{statement}
 use Rattle.write_fronts.proofs.values.map_length.Tie as tie

@@ -1,4 +1,4 @@
--- `fronts::values::url_map_length` meets its contract: the sum is that of both lengths, and does not overflow.
+-- `write_fronts::values::url_map_length` meets its contract: the sum is that of both lengths, and does not overflow.
 use native.Mathlib.Omega.{arith}
 use Rattle.write_fronts.proofs.Laws.{map-small}
 use borrow.Author.Needs.{needs}

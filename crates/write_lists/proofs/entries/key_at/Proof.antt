@@ -1,4 +1,4 @@
--- `parts::entries::key_at` meets its contract: an entry that is there, or the one given for none.
+-- `write_lists::entries::key_at` meets its contract: an entry that is there, or the one given for none.
 -- Assumes nothing.
 use mathlib.Core.Path.{sym}
 use lib.ListN.{List·getD-eq-default}

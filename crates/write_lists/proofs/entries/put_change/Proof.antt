@@ -1,4 +1,4 @@
--- `parts::entries::put_change` meets its contract: a key, and after it a tuning.
+-- `write_lists::entries::put_change` meets its contract: a key, and after it a tuning.
 -- Assumes nothing.
 use mathlib.Core.List.{_++_}
 use mathlib.Core.Path.{refl, ap, _∙_}

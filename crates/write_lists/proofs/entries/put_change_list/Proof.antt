@@ -1,4 +1,4 @@
--- `parts::entries::put_change_list` meets its contract. The invariant: the entries that are left, written on what is there, give what all give.
+-- `write_lists::entries::put_change_list` meets its contract. The invariant: the entries that are left, written on what is there, give what all give.
 -- Assumes nothing.
 use mathlib.Core.Path.{_≡_, refl, sym, ap, _∙_}
 use Prim.Native.Nat.{_+_, _-_, _*_, _≤_, _<_}

@@ -1,4 +1,4 @@
--- `parts::entries::put_changes` meets its contract: a number, and after it so many note changes.
+-- `write_lists::entries::put_changes` meets its contract: a number, and after it so many note changes.
 -- Assumes nothing.
 use mathlib.Core.List.{_∷_}
 use mathlib.Core.Path.{_≡_, refl, sym, ap, _∙_}

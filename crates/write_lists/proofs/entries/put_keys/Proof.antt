@@ -1,4 +1,4 @@
--- `parts::entries::put_keys` meets its contract. The invariant: the keys that are left, written on what is there, give what all give.
+-- `write_lists::entries::put_keys` meets its contract. The invariant: the keys that are left, written on what is there, give what all give.
 -- Assumes nothing.
 use mathlib.Core.List.{List}
 use mathlib.Core.Path.{_≡_, refl, sym, ap, _∙_}

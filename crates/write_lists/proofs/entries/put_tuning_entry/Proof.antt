@@ -1,4 +1,4 @@
--- `parts::entries::put_tuning_entry` meets its contract: an entry below 2^24 is a tuning, and another is none.
+-- `write_lists::entries::put_tuning_entry` meets its contract: an entry below 2^24 is a tuning, and another is none.
 -- Assumes nothing.
 use mathlib.Core.Path.{sym, _∙_}
 use denote.Ref.{now}

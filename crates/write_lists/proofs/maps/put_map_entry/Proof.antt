@@ -1,4 +1,4 @@
--- `parts::maps::put_map_entry` meets its contract: each value follows the one before.
+-- `write_lists::maps::put_map_entry` meets its contract: each value follows the one before.
 -- Assumes nothing.
 use mathlib.Core.Path.{_≡_, refl, sym, ap, _∙_}
 use Prim.Native.Nat.{_/_, _%_, min}

@@ -1,4 +1,4 @@
--- `parts::maps::put_maps` meets its contract: a number, and after it so many bank maps.
+-- `write_lists::maps::put_maps` meets its contract: a number, and after it so many bank maps.
 -- Assumes nothing.
 use mathlib.Core.List.{_∷_}
 use mathlib.Core.Path.{_≡_, refl, sym, ap, _∙_}

@@ -1,4 +1,4 @@
--- `parts::maps::put_offset` meets its contract: four bytes, and after them the offset and the flag.
+-- `write_lists::maps::put_offset` meets its contract: four bytes, and after them the offset and the flag.
 -- Assumes nothing.
 use mathlib.Core.List.{List, [], _∷_}
 use mathlib.Core.Path.{refl, sym, ap, _∙_}

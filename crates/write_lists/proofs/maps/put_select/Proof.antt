@@ -1,4 +1,4 @@
--- `parts::maps::put_select` meets its contract, kind by kind.
+-- `write_lists::maps::put_select` meets its contract, kind by kind.
 -- Assumes nothing.
 use borrow.Author.Needs.{needs}
 use Rattle.write_lists.proofs.maps.put_select.Statement.{statement}

@@ -1,4 +1,4 @@
--- `parts::maps::put_wav` meets its contract: each value follows the one before.
+-- `write_lists::maps::put_wav` meets its contract: each value follows the one before.
 -- Assumes nothing.
 use mathlib.Core.Path.{refl, _∙_}
 use native.Mathlib.Omega.{arith}

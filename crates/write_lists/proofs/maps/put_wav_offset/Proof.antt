@@ -1,4 +1,4 @@
--- `parts::maps::put_wav_offset` meets its contract: a WAV map, and after it an offset.
+-- `write_lists::maps::put_wav_offset` meets its contract: a WAV map, and after it an offset.
 -- Assumes nothing.
 use mathlib.Core.Path.{refl}
 use native.Mathlib.Omega.{arith}

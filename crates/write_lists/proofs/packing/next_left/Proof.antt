@@ -1,4 +1,4 @@
--- `parts::packing::next_left` meets its contract.
+-- `write_lists::packing::next_left` meets its contract.
 -- Assumes nothing.
 use borrow.Author.Needs.{needs}
 use Rattle.write_lists.proofs.Laws.Packs.{next-less}

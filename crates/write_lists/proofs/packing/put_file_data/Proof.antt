@@ -1,4 +1,4 @@
--- `parts::packing::put_file_data` meets its contract: a count byte, and after it the data packed.
+-- `write_lists::packing::put_file_data` meets its contract: a count byte, and after it the data packed.
 -- Assumes nothing.
 use mathlib.Core.List.{_∷_}
 use mathlib.Core.Path.{refl}

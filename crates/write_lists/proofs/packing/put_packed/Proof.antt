@@ -1,4 +1,4 @@
--- `parts::packing::put_packed` meets its contract. The invariant: the bytes that are left, packed on what is there, give what all give.
+-- `write_lists::packing::put_packed` meets its contract. The invariant: the bytes that are left, packed on what is there, give what all give.
 -- Assumes nothing.
 use mathlib.Core.Path.{_≡_, refl, sym, ap, _∙_}
 use Prim.Native.Nat.{_^_, _+_, _-_, _≤_, _<_}

@@ -1,4 +1,4 @@
--- `parts::packing::put_packed_byte` meets its contract: the stores are those of one byte packed.
+-- `write_lists::packing::put_packed_byte` meets its contract: the stores are those of one byte packed.
 -- Assumes nothing.
 use mathlib.Core.Path.{refl}
 use Prim.Native.Nat.{suc, _-_}

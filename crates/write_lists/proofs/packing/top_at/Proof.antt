@@ -1,4 +1,4 @@
--- `parts::packing::top_at` meets its contract: a byte is below 256, and past the end there is 0.
+-- `write_lists::packing::top_at` meets its contract: a byte is below 256, and past the end there is 0.
 -- Assumes nothing.
 use mathlib.Core.Path.{refl}
 use native.Mathlib.Omega.{arith}

@@ -1,4 +1,4 @@
--- `parts::packing::tops_at` meets its contract: the sum of seven top bits.
+-- `write_lists::packing::tops_at` meets its contract: the sum of seven top bits.
 -- Assumes nothing.
 use denote.Ref.{now}
 use borrow.Author.Needs.{needs}

@@ -1,4 +1,4 @@
--- `parts::part::put_key_dump` meets its contract: a name, and after it the tunings of keys.
+-- `write_lists::part::put_key_dump` meets its contract: a name, and after it the tunings of keys.
 -- Assumes nothing.
 use native.Mathlib.Omega.{arith}
 use denote.Ref.{now}

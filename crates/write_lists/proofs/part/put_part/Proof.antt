@@ -1,4 +1,4 @@
--- `parts::part::put_part` meets its contract, message by message: admitted contents have the size that is reckoned.
+-- `write_lists::part::put_part` meets its contract, message by message: admitted contents have the size that is reckoned.
 -- Assumes nothing.
 use Prim.Native.Nat.{_≤_}
 use native.Mathlib.Omega.{arith}

@@ -1,4 +1,4 @@
--- `parts::part::put_part_file` meets its contract, message by message: admitted data is at most 111 bytes.
+-- `write_lists::part::put_part_file` meets its contract, message by message: admitted data is at most 111 bytes.
 -- Assumes nothing.
 use denote.Ref.{now}
 use borrow.Author.Needs.{needs}

@@ -1,4 +1,4 @@
--- `parts::part::put_scale_dump_2` meets its contract: a name, and after it a scale.
+-- `write_lists::part::put_scale_dump_2` meets its contract: a name, and after it a scale.
 -- Assumes nothing.
 use mathlib.Core.Path.{refl}
 use native.Mathlib.Omega.{arith}

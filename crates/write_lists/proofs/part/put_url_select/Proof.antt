@@ -1,4 +1,4 @@
--- `parts::part::put_url_select` meets its contract: a URL, and after it what a select holds.
+-- `write_lists::part::put_url_select` meets its contract: a URL, and after it what a select holds.
 -- Assumes nothing.
 use mathlib.Core.Path.{_∙_}
 use Prim.Native.Nat.{_+_}

@@ -1,4 +1,4 @@
--- `parts::scales::put_four_2` meets its contract: each value follows the one before.
+-- `write_lists::scales::put_four_2` meets its contract: each value follows the one before.
 -- Assumes nothing.
 use mathlib.Core.Path.{refl}
 use native.Mathlib.Omega.{arith}

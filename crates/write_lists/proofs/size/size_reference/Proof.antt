@@ -1,4 +1,4 @@
--- `parts::size::size_reference` meets its contract, message by message.
+-- `write_lists::size::size_reference` meets its contract, message by message.
 -- Assumes nothing.
 use native.Mathlib.Omega.{arith}
 use borrow.Author.Needs.{needs}

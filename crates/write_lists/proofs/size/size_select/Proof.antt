@@ -1,4 +1,4 @@
--- `parts::size::size_select` meets its contract, kind by kind.
+-- `write_lists::size::size_select` meets its contract, kind by kind.
 -- Assumes nothing.
 use native.Mathlib.Omega.{arith}
 use borrow.Author.Needs.{needs}

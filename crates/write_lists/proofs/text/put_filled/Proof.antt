@@ -1,4 +1,4 @@
--- `parts::text::put_filled` meets its contract: the bytes that are there, and after them those that fill.
+-- `write_lists::text::put_filled` meets its contract: the bytes that are there, and after them those that fill.
 -- Assumes nothing.
 use mathlib.Core.List.{List, _++_}
 use mathlib.Core.Path.{_≡_, sym, ap, _∙_}

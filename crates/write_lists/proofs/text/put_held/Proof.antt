@@ -1,4 +1,4 @@
--- `parts::text::put_held` meets its contract. The invariant: the stores that are left, made on what is there, give what all stores give.
+-- `write_lists::text::put_held` meets its contract. The invariant: the stores that are left, made on what is there, give what all stores give.
 -- Assumes nothing.
 use mathlib.Core.Path.{_≡_, refl, sym, _∙_}
 use Prim.Native.Nat.{_-_, _≤_, _<_}

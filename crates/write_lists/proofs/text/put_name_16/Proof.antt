@@ -1,4 +1,4 @@
--- `parts::text::put_name_16` meets its contract: 16 bytes, filled with spaces.
+-- `write_lists::text::put_name_16` meets its contract: 16 bytes, filled with spaces.
 -- Assumes nothing.
 use mathlib.Core.Path.{refl, sym, _∙_}
 use denote.Ref.{now}

@@ -1,4 +1,4 @@
--- `parts::text::put_sample_name` meets its contract: a length, and after it so many bytes.
+-- `write_lists::text::put_sample_name` meets its contract: a length, and after it so many bytes.
 -- Assumes nothing.
 use mathlib.Core.List.{_∷_}
 use mathlib.Core.Path.{sym, ap, _∙_}

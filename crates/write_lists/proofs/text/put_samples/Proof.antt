@@ -1,4 +1,4 @@
--- `parts::text::put_samples` meets its contract: 120 bytes, filled with 00.
+-- `write_lists::text::put_samples` meets its contract: 120 bytes, filled with 00.
 -- Assumes nothing.
 use mathlib.Core.Path.{refl, sym, _∙_}
 use denote.Ref.{now}

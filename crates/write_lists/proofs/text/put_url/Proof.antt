@@ -1,4 +1,4 @@
--- `parts::text::put_url` meets its contract: the bytes that are kept, and after them 00.
+-- `write_lists::text::put_url` meets its contract: the bytes that are kept, and after them 00.
 -- Assumes nothing.
 use mathlib.Core.List.{[], _∷_, _++_}
 use mathlib.Core.Path.{_≡_, sym, ap, _∙_}

@@ -1,7 +1,7 @@
--- `fronts::values::reference_letters` meets its contract: each file reference type has its four letters.
+-- `messages::file_reference::reference_letters` meets its contract: each file reference type has its four letters.
 use borrow.Author.Needs.{needs}
-use Rattle.write_fronts.proofs.values.reference_letters.Statement.{statement}
-use Rattle.write_fronts.proofs.values.reference_letters.Tie as tie
+use Rattle.messages.proofs.file_reference.reference_letters.Statement.{statement}
+use Rattle.messages.proofs.file_reference.reference_letters.Tie as tie
 
 returns : tie.Need-returns
 returns c = rw (c .before .enum-told .given .1) (c .letters-of .ensures)

@@ -1,7 +1,7 @@
--- `fronts::values::type_letters` meets its contract: each file type has its four letters.
+-- `messages::file_dump::type_letters` meets its contract: each file type has its four letters.
 use borrow.Author.Needs.{needs}
-use Rattle.write_fronts.proofs.values.type_letters.Statement.{statement}
-use Rattle.write_fronts.proofs.values.type_letters.Tie as tie
+use Rattle.messages.proofs.file_dump.type_letters.Statement.{statement}
+use Rattle.messages.proofs.file_dump.type_letters.Tie as tie
 
 returns : tie.Need-returns
 returns c = rw (c .before .enum-told .given .1) (c .letters-of .ensures)

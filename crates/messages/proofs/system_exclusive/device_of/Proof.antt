@@ -1,8 +1,8 @@
--- `reading::device_of` meets its contract: 127 is the all call.
+-- `messages::system_exclusive::device_of` meets its contract: 127 is the all call.
 -- Assumes nothing.
 use borrow.Author.Tests.{eq-eqb, ne-eqb}
-use Rattle.read_places.proofs.device_of.Statement.{statement}
-use Rattle.read_places.proofs.device_of.Tie as tie
+use Rattle.messages.proofs.system_exclusive.device_of.Statement.{statement}
+use Rattle.messages.proofs.system_exclusive.device_of.Tie as tie
 
 returns : tie.Need-returns
 returns c = rw (eq-eqb _ _ (c .if1 .taken))
