@@ -5,7 +5,7 @@ use mathlib.Core.List.{List, [], _∷_}
 use Prim.Native.Nat.{ℕ, _<_}
 use native.Mathlib.Omega.{arith}
 use lib.Dec.{leb, lit<}
-use lib.ListN.{length}
+use lib.ListN.{length, getD}
 use borrow.Author.Tests.{le-leb}
 use Rattle.util.specs.Options.{unless}
 use Rattle.util.specs.Limits.{sample-bytes, most-changes}
@@ -119,13 +119,13 @@ identity-reply =
     }
 
 -- "loop type 00, 01, 7F"
-abbrev pub loop-byte : LoopType → ℕ
-loop-byte Forward = 0x00
-loop-byte BiDirectional = 0x01
-loop-byte Off = 0x7F
-
 abbrev pub loop-code : LoopType → List ℕ
-loop-code t = loop-byte t ∷ []
+loop-code Forward = 0x00 ∷ []
+loop-code BiDirectional = 0x01 ∷ []
+loop-code Off = 0x7F ∷ []
+
+abbrev pub loop-byte : LoopType → ℕ
+loop-byte t = getD (loop-code t) 0 0
 
 abbrev pub loop-type : Part LoopType
 loop-type =
@@ -137,20 +137,20 @@ loop-type =
     }
 
 -- "Extended types: 00 to 03, 40 to 43, 7E, 7F"
-abbrev pub extended-loop-byte : ExtendedLoopType → ℕ
-extended-loop-byte ext.Forward = 0x00
-extended-loop-byte ext.BiDirectional = 0x01
-extended-loop-byte ext.ForwardRelease = 0x02
-extended-loop-byte ext.BiDirectionalRelease = 0x03
-extended-loop-byte ext.Backward = 0x40
-extended-loop-byte ext.BackwardBiDirectional = 0x41
-extended-loop-byte ext.BackwardRelease = 0x42
-extended-loop-byte ext.BackwardBiDirectionalRelease = 0x43
-extended-loop-byte ext.BackwardOneShot = 0x7E
-extended-loop-byte ext.OneShot = 0x7F
-
 abbrev pub extended-loop-code : ExtendedLoopType → List ℕ
-extended-loop-code t = extended-loop-byte t ∷ []
+extended-loop-code ext.Forward = 0x00 ∷ []
+extended-loop-code ext.BiDirectional = 0x01 ∷ []
+extended-loop-code ext.ForwardRelease = 0x02 ∷ []
+extended-loop-code ext.BiDirectionalRelease = 0x03 ∷ []
+extended-loop-code ext.Backward = 0x40 ∷ []
+extended-loop-code ext.BackwardBiDirectional = 0x41 ∷ []
+extended-loop-code ext.BackwardRelease = 0x42 ∷ []
+extended-loop-code ext.BackwardBiDirectionalRelease = 0x43 ∷ []
+extended-loop-code ext.BackwardOneShot = 0x7E ∷ []
+extended-loop-code ext.OneShot = 0x7F ∷ []
+
+abbrev pub extended-loop-byte : ExtendedLoopType → ℕ
+extended-loop-byte t = getD (extended-loop-code t) 0 0
 
 abbrev pub extended-loop-type : Part ExtendedLoopType
 extended-loop-type =

@@ -12,13 +12,8 @@ use mir.Syntax.{Width, w64}
 use mir.Val.{Fits, SFits, hbits, toZ, ofZ}
 use mir.Facts.{toZ-ofZ}
 use borrow.Author.Tests.{ltb-true, le-ltb}
-use Rattle.messages.specs.declared.«sample_dump».LoopType.{LoopType}
-use Rattle.messages.specs.declared.«sample_dump».ExtendedLoopType.{ExtendedLoopType}
-use Rattle.messages.specs.declared.«sample_dump».LoopType.the-variants as loop
-use Rattle.messages.specs.declared.«sample_dump».ExtendedLoopType.the-variants as ext
-use Rattle.messages.specs.Structures.{loop-byte, extended-loop-byte}
 use Rattle.numbers_of_message.specs.Put.{Put}
-use Rattle.numbers_to_message.specs.Values.{signed-number-of, loop-number-of, extended-loop-number-of}
+use Rattle.numbers_to_message.specs.Values.{signed-number-of}
 
 -- numbers put of one value are those put of an equal one
 pub put-of : {A : Type 0} (f : A → List ℕ) {a b : A} {out after : List ℕ} {n : ℕ} → a ≡ b → Put (f b) out after n → Put (f a) out after n
@@ -87,28 +82,3 @@ module _ (w : Width) (z : ℤ) (f : SFits w z) (r : 2 ^ hbits w ≤ 2 ^ 63) wher
 
     pub same-number : natAbs (toZ w (ofZ w z)) ≡ signed-number-of z
     same-number = ap natAbs (toZ-ofZ f ∙ same-is) ∙ ap signed-number-of (sym same-is)
-
--- ---- the byte of a loop type is its number
-
-loop-same : (t : LoopType) → loop-byte t ≡ loop-number-of t
-loop-same loop.Forward = refl
-loop-same loop.BiDirectional = refl
-loop-same loop.Off = refl
-
-pub loop-is : (t : LoopType) {r : ℕ} → r ≡ loop-byte t → loop-number-of t ≡ r
-loop-is t e = sym (e ∙ loop-same t)
-
-extended-loop-same : (t : ExtendedLoopType) → extended-loop-byte t ≡ extended-loop-number-of t
-extended-loop-same ext.Forward = refl
-extended-loop-same ext.BiDirectional = refl
-extended-loop-same ext.ForwardRelease = refl
-extended-loop-same ext.BiDirectionalRelease = refl
-extended-loop-same ext.Backward = refl
-extended-loop-same ext.BackwardBiDirectional = refl
-extended-loop-same ext.BackwardRelease = refl
-extended-loop-same ext.BackwardBiDirectionalRelease = refl
-extended-loop-same ext.BackwardOneShot = refl
-extended-loop-same ext.OneShot = refl
-
-pub extended-loop-is : (t : ExtendedLoopType) {r : ℕ} → r ≡ extended-loop-byte t → extended-loop-number-of t ≡ r
-extended-loop-is t e = sym (e ∙ extended-loop-same t)

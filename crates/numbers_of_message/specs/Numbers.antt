@@ -2,9 +2,10 @@
 use mathlib.Core.List.{List, [], _∷_, _++_, map}
 use Prim.Native.Nat.{ℕ}
 use Rattle.messages.specs.Fields.{bit}
+use Rattle.messages.specs.Structures.{loop-byte, extended-loop-byte}
 use Rattle.numbers_to_message.specs.declared.fit.NumberType.{NumberType}
 use Rattle.numbers_to_message.specs.Types.{DeviceID, TuningBank, SampleDumpMsg, ExtendedSampleDumpMsg, ManufacturerID, IdentityReply, FileDumpMsg, Scale1Byte, Scale2Byte, GeneralMidi, WAVMap, SelectMap, FileReferenceMsg, UniversalNonRealTimeMsg}
-use Rattle.numbers_to_message.specs.Values.{Value, loop-number-of, extended-loop-number-of, file-number-of, reference-number-of, signed-number-of, device-number-of, loop-index-of, bank-number-of}
+use Rattle.numbers_to_message.specs.Values.{Value, file-number-of, reference-number-of, signed-number-of, device-number-of, loop-index-of, bank-number-of}
 use Rattle.numbers_to_message.specs.declared.fit.NumberType.the-variants.{U8, U16, U32, U64, I8, I16, Flag, Device, RequestedLoop, TransmittedLoop, LoopType, ExtendedLoopType, FileType, ReferenceType, BankOrNone, Zero, One, Two, Three}
 use Rattle.messages.specs.declared.«sample_dump».SampleDumpMsg.the-variants as sample
 use Rattle.messages.specs.declared.«sample_dump».ExtendedSampleDumpMsg.the-variants as extended
@@ -32,8 +33,8 @@ number Flag b = bit b
 number Device d = device-number-of d
 number RequestedLoop i = loop-index-of i
 number TransmittedLoop i = loop-index-of i
-number LoopType t = loop-number-of t
-number ExtendedLoopType t = extended-loop-number-of t
+number LoopType t = loop-byte t
+number ExtendedLoopType t = extended-loop-byte t
 number FileType t = file-number-of t
 number ReferenceType t = reference-number-of t
 number BankOrNone b = bank-number-of b

@@ -9,7 +9,7 @@ use lib.ListN.{getD}
 use Rattle.util.specs.Pick.{pick}
 use Rattle.util.specs.Options.{map-option}
 use Rattle.messages.specs.Fields.{bit, type-chars, named-types}
-use Rattle.messages.specs.Structures.{loop-code, extended-loop-code}
+use Rattle.messages.specs.Structures.{loop-byte, extended-loop-byte}
 use Rattle.numbers_to_message.specs.Types.{NumberType, DeviceID, LoopNumber, LoopType, ExtendedLoopType, FileType, FileReferenceType, TuningBank}
 use Rattle.numbers_to_message.specs.declared.fit.NumberType.the-variants as type
 use Rattle.messages.specs.declared.«system_exclusive».DeviceID.the-variants.{Device, AllCall}
@@ -21,13 +21,6 @@ use Rattle.messages.specs.declared.«file_dump».FileType.the-variants.{Custom}
 use Rattle.messages.specs.declared.«file_reference».FileReferenceType.the-variants as reference
 
 -- ---- the number of a value that is no number
-
--- "loop type byte"
-abbrev pub loop-number-of : LoopType → ℕ
-loop-number-of t = getD (loop-code t) 0 0
-
-abbrev pub extended-loop-number-of : ExtendedLoopType → ℕ
-extended-loop-number-of t = getD (extended-loop-code t) 0 0
 
 -- "type (four bytes, first highest)"
 abbrev pub file-number-of : FileType → ℕ
@@ -131,8 +124,8 @@ value type.Flag x = numbered bit (false ∷ true ∷ []) x
 value type.Device x = apart 256 AllCall (λ n. map-option Device (below (2 ^ 8) n)) x
 value type.RequestedLoop x = apart 65536 RequestAll (λ n. map-option Loop (below (2 ^ 16) n)) x
 value type.TransmittedLoop x = apart 65536 DeleteAll (λ n. map-option Loop (below (2 ^ 16) n)) x
-value type.LoopType x = numbered loop-number-of loop-types x
-value type.ExtendedLoopType x = numbered extended-loop-number-of extended-loop-types x
+value type.LoopType x = numbered loop-byte loop-types x
+value type.ExtendedLoopType x = numbered extended-loop-byte extended-loop-types x
 value type.FileType x = map-option spelled (below (2 ^ 32) x)
 value type.ReferenceType x = numbered reference-number-of reference-types x
 value type.BankOrNone x = apart 256 NoBank (λ n. map-option Bank (below (2 ^ 8) n)) x

@@ -25,6 +25,9 @@ ghost use Rattle.messages.specs.Structures.{loop-code};
 ghost use Rattle.messages.specs.Layouts.{form};
 ghost use Rattle.read_places.specs.Found.{Reads, is-read};
 
+// The bytes of a packet's fields: its number and the sample bytes.
+const PACKET_FIELDS: usize = 1 + SAMPLE_BYTES;
+
 // A sample dump header.
 pub fn header(f: &[u8]) -> Found
     requires { ⌜ Seven (now f) ⌝ }
@@ -94,7 +97,7 @@ pub fn packet(f: &[u8]) -> Found
     requires { ⌜ Seven (now f) ⌝ }
     ensures { λ r. ⌜ Reads head.SampleDumpPacket r (now (f .entry)) ⌝ }
 {
-    if f.len() != 1 + SAMPLE_BYTES {
+    if f.len() != PACKET_FIELDS {
         return Found::Nothing;
     }
     Found::Is {

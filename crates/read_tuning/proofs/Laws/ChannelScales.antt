@@ -15,7 +15,7 @@ use Rattle.util.specs.Pick.{pick}
 use Rattle.util.specs.Channels.{channels-of}
 use Rattle.util.specs.declared.channels.ChannelSet.{ChannelSet}
 use Rattle.util.specs.declared.channels.ChannelSet.the-variants.{Set, Spare}
-use Rattle.util.proofs.Laws.Channels.{channels-back}
+use Rattle.util.proofs.Laws.Groups.{value-high-groups}
 use Rattle.util.proofs.Laws.Options.{not-some}
 use Rattle.messages.specs.declared.head.Head.the-variants as head
 use Rattle.messages.specs.format.Tests.{other-length}
@@ -73,7 +73,7 @@ module _ (f : List ℕ) (s : Seven f) where
       not-some (form head.ScaleTuning1Byte .read f)
       λ a d. let w = form head.ScaleTuning1Byte .only f a d in
       let x : take 3 f ≡ groups-high 3 (a .channels) = sym (ap (take 3) (w .1)) in
-      let y = ap value-high x ∙ channels-back (a .channels) (w .0 .0 .0) in
+      let y = ap value-high x ∙ value-high-groups 3 (a .channels) (omega (arith, w .0 .0 .0)) in
       omega (arith, spare-is f (omega arith) e, w .0 .0 .0)
 
   -- ---- signed values of two groups
@@ -96,5 +96,5 @@ module _ (f : List ℕ) (s : Seven f) where
       not-some (form head.ScaleTuning2Byte .read f)
       λ a d. let w = form head.ScaleTuning2Byte .only f a d in
       let x : take 3 f ≡ groups-high 3 (a .channels) = sym (ap (take 3) (w .1)) in
-      let y = ap value-high x ∙ channels-back (a .channels) (w .0 .0 .0) in
+      let y = ap value-high x ∙ value-high-groups 3 (a .channels) (omega (arith, w .0 .0 .0)) in
       omega (arith, spare-is f (omega arith) e, w .0 .0 .0)
