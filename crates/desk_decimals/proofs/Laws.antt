@@ -9,7 +9,6 @@ use lib.ListN.{length, drop, getD, drop-of-length-le}
 use lib.Seq.{drop-cons}
 use borrow.Author.Tests.{lt-ltb, le-ltb}
 use Rattle.desk_decimals.specs.Decimal.{after, number-of}
-use Rattle.desk_decimals.specs.declared.Number.{Number}
 use Rattle.desk_decimals.specs.declared.Number.the-variants.{Is, Nothing}
 
 module _ (s : List ℕ) (n i : ℕ) (h : i < length s) where

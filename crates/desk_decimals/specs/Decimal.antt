@@ -1,8 +1,7 @@
 -- A word as a number: its digits to the base ten.
-use mathlib.Core.Bool.{Bool, true, false}
 use mathlib.Core.List.{List, [], _∷_}
 use Prim.Native.Nat.{ℕ, _+_, _*_, _-_}
-use lib.Dec.{leb, ltb}
+use lib.Dec.{ltb}
 use Rattle.util.specs.Pick.{pick}
 use Rattle.desk_decimals.specs.declared.Number.{Number}
 use Rattle.desk_decimals.specs.declared.Number.the-variants.{Is, Nothing}

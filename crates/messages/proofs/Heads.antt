@@ -1,11 +1,12 @@
 -- What the table of layouts has to meet, head by head: its codes are told apart, below 128, and followed by enough bytes.
 -- Assumes nothing.
 use mathlib.Core.Path.{_≡_, refl}
-use mathlib.Core.Bool.{true, false}
+use mathlib.Core.Bool.{true}
 use mathlib.Core.List.{List, _++_}
 use Prim.Native.Nat.{ℕ, _≤_}
 use native.Mathlib.Omega.{arith}
 use lib.ListN.{length}
+use Rattle.util.proofs.Laws.Options.{false-true}
 use Rattle.util.specs.Groups.{Seven, seven}
 use Rattle.util.proofs.Laws.Groups.{seven-true}
 use Rattle.messages.specs.Types.{Head, Kind}
@@ -13,9 +14,6 @@ use Rattle.messages.specs.declared.head.Head.the-variants.{SampleDumpHea
 use Rattle.messages.specs.declared.«file_reference».Kind.the-variants.{Bank, WAV}
 use Rattle.messages.specs.format.{got, find}
 use Rattle.messages.specs.Layouts.{Fields, form, code, reads, all-heads}
-
-false-true : false ≡ true → ⊥
-false-true e = let z : _≡_ {A = ℕ} 0 1 = cc in omega arith
 
 -- a head that is read for the kind is found by its bytes
 pub find-head : (k : Kind) (h : Head) (r : List ℕ) → reads k h ≡ true → find (reads k) code all-heads (code h ++ r) ≡ got h r

@@ -3,7 +3,7 @@ use mathlib.Core.Path.{_≡_, refl, sym, ap, _∙_}
 use mathlib.Core.Bool.{Bool, true, false, _&&_}
 use mathlib.Core.List.{List, [], _∷_}
 use mathlib.Core.Option.{Option, none}
-use Prim.Native.Nat.{ℕ, zero, suc, _+_, _*_, _≤_, _<_, _^_}
+use Prim.Native.Nat.{ℕ, zero, suc, _+_, _*_, _≤_, _^_}
 use native.Mathlib.Omega.{arith}
 use lib.Dec.{leb, eqb, lit<, lit≤}
 use lib.ListN.{length}
@@ -25,7 +25,7 @@ use Rattle.messages.specs.declared.«sample_dump».LoopNumber.the-varian
 use Rattle.messages.specs.declared.«file_dump».FileType.the-variants.{MIDI, MIEX, ESEQ, TEXT, BIN, MAC, Custom}
 use Rattle.messages.specs.declared.«file_dump».Letters.{Letters}
 use Rattle.util.specs.Pick.{pick}
-use Rattle.messages.specs.format.{Part, Whole, unsigned, unsigned-high, unsigned-high-below, ranged, _⊗_, lit, via, _named_, refusing, such, exactly, counted, rest, all-settled, text, lookup, lookup-same}
+use Rattle.messages.specs.format.{Part, Whole, unsigned, unsigned-high, unsigned-high-below, ranged, _⊗_, lit, via, refusing, such, exactly, counted, rest, all-settled, text, lookup, lookup-same}
 
 -- ---- numbers
 

@@ -1,15 +1,14 @@
 -- The fields of a settled message are told, so its numbers say it. Assumes nothing.
-use mathlib.Core.Path.{_≡_, refl, sym, ap, _∙_}
+use mathlib.Core.Path.{_≡_, refl}
 use mathlib.Core.Logic.{⊎-elim}
 use mathlib.Core.Bool.{Bool, true, false}
-use mathlib.Core.Option.{Option, none, some}
+use mathlib.Core.Option.{Option, none}
 use mathlib.Core.List.{List, [], _∷_}
 use Prim.Native.Nat.{ℕ, suc, _+_, _-_, _≤_, _<_, _^_}
 use native.Mathlib.Omega.{arith}
-use lib.Dec.{leb, eqb}
+use lib.Dec.{leb}
 use lib.IntN.{ℤ, pos, negsuc}
 use borrow.Author.Tests.{eq-eqb, ne-eqb}
-use Rattle.util.specs.Pick.{pick}
 use Rattle.util.specs.Signed.{biased, unbiased, less}
 use Rattle.messages.specs.declared.«system_exclusive».DeviceID.the-variants.{Device, AllCall}
 use Rattle.messages.specs.declared.«sample_dump».LoopNumber.the-variants.{Loop, RequestAll, DeleteAll}
@@ -29,7 +28,6 @@ use Rattle.messages.specs.Fields.{Four, s7, s14, device, loop-requested, loop-t
 use Rattle.messages.specs.Structures.{scale-1, scale-2, identity-reply, AfterMaker, reply, revision}
 use Rattle.messages.specs.Maps.{wav-map, offset, select-for}
 use Rattle.messages.specs.Layouts.{form}
-use Rattle.messages.specs.Messages.{Settled}
 use Rattle.messages.specs.MessageOf.{headOf, fieldsOf, messageOf, head-sample, fields-sample, head-extended, fields-extended, head-file, fields-file, head-request, fields-request, head-keys, fields-keys, head-select, fields-select, any-select, head-reference, fields-reference}
 use Rattle.messages.proofs.Exact.{settled-parts}
 use Rattle.messages.proofs.Walk.{bool-cases}
@@ -38,7 +36,7 @@ use Rattle.numbers_to_message.specs.Types.{DeviceID, TuningBank, LoopNumber, Fi
 use Rattle.numbers_to_message.specs.Values.{file-number-of, numbered}
 use Rattle.numbers_of_message.specs.Numbers.{of-sample, of-extended, of-identity, of-file, banked, of-midi, of-select, of-reference, coded}
 use Rattle.numbers_of_message.specs.Numbers as numbers
-use Rattle.numbers_of_message.specs.Told.{Within, Told, AllTold, MessageTold}
+use Rattle.numbers_of_message.specs.Told.{Within, Told, AllTold}
 use Rattle.numbers_of_message.specs.Promises.{SettledTold}
 
 -- ---- the kinds of field

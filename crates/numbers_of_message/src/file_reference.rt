@@ -11,7 +11,6 @@ use messages::file_reference::SelectMap;
 use messages::file_reference::WAVMap;
 ghost use mathlib.Core.Path.{_≡_};
 ghost use mathlib.Core.List.{_∷_};
-ghost use Rattle.numbers_to_message.specs.Values.{reference-number-of};
 ghost use Rattle.numbers_of_message.specs.Put.{Put};
 ghost use Rattle.numbers_of_message.specs.Numbers.{numbers, field-numbers, wav, of-select, of-reference};
 

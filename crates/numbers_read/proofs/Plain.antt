@@ -13,7 +13,7 @@ use Rattle.messages.specs.Fields.{device-of}
 use Rattle.messages.specs.Messages.{Message, Answer}
 use Rattle.read_places.specs.declared.Found.the-variants.{Is}
 use Rattle.read_places.specs.Found.{Reads, data-of, entries-of}
-use Rattle.read_places.proofs.Laws.Answers.{false-true}
+use Rattle.util.proofs.Laws.Options.{false-true}
 use Rattle.reader.specs.declared.lent.Reading.{Reading}
 use Rattle.reader.specs.declared.lent.Reading.the-variants as reading
 use Rattle.reader.specs.declared.opening.Opening.the-variants as opening

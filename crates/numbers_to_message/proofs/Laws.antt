@@ -14,9 +14,9 @@ use borrow.Author.Tests.{ltb-true, ltb-false, leb-true, leb-false, lt-ltb, le-lt
 use Rattle.util.specs.Pick.{pick}
 use Rattle.util.specs.Options.{map-option}
 use Rattle.numbers_to_message.specs.Types.{NumberType, DeviceID, UniversalNonRealTimeMsg, Made}
-use Rattle.numbers_to_message.specs.declared.Made.the-variants.{Message, Malformed}
+use Rattle.numbers_to_message.specs.declared.Made.the-variants.{Malformed}
 use Rattle.numbers_to_message.specs.declared.fit.NumberType.the-variants.{U8, Flag, Device, ReferenceType}
-use Rattle.numbers_to_message.specs.Values.{Value, value, or-else}
+use Rattle.numbers_to_message.specs.Values.{value, or-else}
 use Rattle.numbers_to_message.specs.Rows.{Fun, Row}
 use Rattle.numbers_to_message.specs.Table.{given, read, read-first, or-other, rows-of}
 use Rattle.numbers_to_message.specs.Fits.{is-some, fit, taken, misfit, fits, made, message-if, row-message, row-fits, fits-any, first-message}

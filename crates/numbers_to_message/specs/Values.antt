@@ -5,7 +5,6 @@ use mathlib.Core.Option.{Option, none, some}
 use Prim.Native.Nat.{ℕ, _+_, _*_, _-_, _/_, _%_, _^_}
 use lib.Dec.{ltb, eqb}
 use lib.IntN.{ℤ, pos, negsuc}
-use lib.ListN.{getD}
 use Rattle.util.specs.Pick.{pick}
 use Rattle.util.specs.Options.{map-option}
 use Rattle.messages.specs.Fields.{bit, type-chars, named-types}

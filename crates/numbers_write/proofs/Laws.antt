@@ -8,6 +8,7 @@ use native.Mathlib.Omega.{arith}
 use lib.Dec.{ltb}
 use lib.ListN.{length, getD, replicate}
 use borrow.Author.Tests.{ltb-true, ltb-false, leb-true, lt-ltb, le-ltb, ne-eqb}
+use Rattle.util.proofs.Laws.Options.{false-true}
 use Rattle.util.specs.Pick.{pick}
 use Rattle.messages.proofs.Walk.{bool-cases}
 use Rattle.numbers_to_message.specs.declared.fit.NumberType.{NumberType}
@@ -26,9 +27,6 @@ use Rattle.writer.specs.declared.Written.{Written}
 use Rattle.writer.specs.Write.{written-at, written-number, written-value, output-after}
 use Rattle.numbers_write.specs.Write.{made-number, made-value, made-output, write-number, write-value, write-output}
 use Rattle.numbers_write.specs.Whole.{is-message, device-in, message-in}
-
-false-true : false ≡ true → ⊥
-false-true e = let z : _≡_ {A = ℕ} 0 1 = cc in omega arith
 
 either : (b : Bool) → false ≡ pick b false false
 either true = refl

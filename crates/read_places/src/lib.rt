@@ -5,7 +5,6 @@ use messages::system_exclusive::DeviceID;
 use messages::system_exclusive::UniversalNonRealTimeMsg;
 ghost use mathlib.Core.Path.{_≡_};
 ghost use Prim.Native.Nat.{_≤_};
-ghost use Rattle.messages.specs.Fields.{device-of};
 
 // What fields say: a message, the part of them that its name, URL or sample bytes are, 0, 0 where it has none, and where the list starts that
 // goes to lent space, with the number of places that it takes; or nothing.

@@ -25,7 +25,6 @@ ghost use Rattle.messages.specs.declared.head.Head.the-variants as head;
 ghost use Rattle.read_places.specs.Places.{value-at, tuning-entries, change-entries};
 ghost use Rattle.messages.specs.Layouts.{form};
 ghost use Rattle.read_places.specs.Found.{Reads, is-read};
-ghost use Rattle.read_tuning.specs.Scales.{scale-1-at, scale-2-at};
 
 // 08 00: the program.
 pub fn bulk_request(f: &[u8]) -> Found

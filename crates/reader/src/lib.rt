@@ -11,7 +11,7 @@ use read_places::Found;
 use util::refusal::Refusal;
 ghost use mathlib.Core.Path.{_≡_};
 ghost use mathlib.Core.Option.{some};
-ghost use lib.ListN.{take, drop, getD};
+ghost use lib.ListN.{getD};
 ghost use Rattle.messages.specs.Messages.{readOf, inside};
 ghost use Rattle.messages.specs.Walk.{is-frame};
 ghost use Rattle.reader.specs.declared.opening.Opening.the-variants as opening;

@@ -1,10 +1,9 @@
 -- No frame has more than 1,292 bytes: an open with select (0B 03) with a URL of 260 bytes and 127 maps has so many.
 -- Assumes nothing.
-use mathlib.Core.Path.{_≡_, refl, sym, ap, subst, _∙_}
+use mathlib.Core.Path.{_≡_, refl, sym, subst, _∙_}
 use mathlib.Core.Bool.{Bool, true, false}
-use mathlib.Core.List.{List, [], _∷_, _++_}
+use mathlib.Core.List.{List, [], _∷_}
 use Prim.Native.Nat.{ℕ, zero, suc, _+_, _*_, _≤_}
-use native.Mathlib.Nat.{mul-zero, mul-suc}
 use native.Mathlib.Omega.{arith}
 use lib.ListN.{length, length-append}
 use borrow.Author.Tests.{leb-true}
@@ -13,7 +12,6 @@ use Rattle.util.specs.Packing.{pack}
 use Rattle.util.specs.Checksum.{checksum}
 use Rattle.messages.specs.declared.head.Head.{Head}
 use Rattle.messages.specs.declared.head.Head.the-variants as head
-use Rattle.messages.specs.declared.«file_reference».Kind.{Kind}
 use Rattle.messages.specs.declared.«file_reference».FileReferenceType.{FileReferenceType}
 use Rattle.messages.specs.declared.«file_reference».FileReferenceType.the-variants.{DLS, SF2, WAV}
 use Rattle.messages.specs.declared.«sample_dump».LoopType.{LoopType}
@@ -22,23 +20,16 @@ use Rattle.messages.specs.declared.«sample_dump».ExtendedLoopType.{ExtendedLo
 use Rattle.messages.specs.declared.«sample_dump».ExtendedLoopType.the-variants as ext
 use Rattle.messages.specs.declared.«system_exclusive».ManufacturerID.{ManufacturerID}
 use Rattle.messages.specs.declared.«system_exclusive».ManufacturerID.the-variants.{OneByte, Extended}
-use Rattle.messages.specs.format.Core.{Part}
-use Rattle.messages.specs.format.Lists.{all-bytes}
 use Rattle.messages.specs.Fields.{u7, tuning}
 use Rattle.messages.specs.Structures.{AfterMaker, key-tuning, loop-code, extended-loop-code, reply, revision, identity-reply}
-use Rattle.messages.specs.Maps.{BankSelect, WAVSelect, AnySelect, mapList, mapOffset, wavMap, wavMapOffset, bankSelect, wavSelect, bank-select, wav-select, select-for, reference-code, reference-size, maps-size}
+use Rattle.messages.specs.Maps.{BankSelect, WAVSelect, AnySelect, mapList, mapOffset, wavMap, wavMapOffset, bankSelect, wavSelect, bank-select, wav-select, select-for, reference-size, maps-size}
 use Rattle.messages.specs.Layouts.{Fields, form, summed, code}
-use Rattle.messages.specs.Messages.{Message, Answer, given, refused, with-sum, body, framed}
-use Rattle.messages.specs.Promises.{IsFrameFor}
+use Rattle.messages.specs.Messages.{Message, given, with-sum, framed}
+use Rattle.messages.proofs.Formats.{all-size}
 use Rattle.messages.proofs.Exact.{settled-parts, write-settled}
 use Rattle.walk.specs.Promises.{FrameShort}
 
 -- ---- lists
-
-module _ {A : Type 0} (p : Part A) (n : ℕ) (each : (a : A) → length (p .bytes a) ≡ n) where
-  all-size : (l : List A) → length (all-bytes p l) ≡ n * length l
-  all-size [] = sym (mul-zero n)
-  all-size (x ∷ l) = length-append (p .bytes x) (all-bytes p l) ∙ omega (arith, each x, all-size l, mul-suc n (length l))
 
 pack-size : (k : ℕ) (l : List ℕ) → length (pack k l) ≤ 2 * length l
 pack-size zero [] = omega arith

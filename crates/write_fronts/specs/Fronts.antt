@@ -5,12 +5,9 @@ use Rattle.util.specs.Groups.{groups, held}
 use Rattle.messages.specs.declared.«system_exclusive».ManufacturerID.{ManufacturerID}
 use Rattle.messages.specs.declared.«sample_dump».SampleDumpMsg.{SampleDumpMsg}
 use Rattle.messages.specs.declared.«sample_dump».ExtendedSampleDumpMsg.{ExtendedSampleDumpMsg}
-use Rattle.messages.specs.declared.«sample_dump».LoopType.{LoopType}
-use Rattle.messages.specs.declared.«sample_dump».ExtendedLoopType.{ExtendedLoopType}
 use Rattle.messages.specs.declared.«file_dump».FileDumpMsg.{FileDumpMsg}
 use Rattle.messages.specs.declared.tuning.TuningBank.{TuningBank}
 use Rattle.messages.specs.declared.«general_midi».GeneralMidi.{GeneralMidi}
-use Rattle.messages.specs.declared.«file_reference».FileReferenceType.{FileReferenceType}
 use Rattle.messages.specs.declared.«file_reference».SelectMap.{SelectMap}
 use Rattle.messages.specs.declared.«file_reference».FileReferenceMsg.{FileReferenceMsg}
 use Rattle.messages.specs.declared.«system_exclusive».UniversalNonRealTimeMsg.{UniversalNonRealTimeMsg}
@@ -18,12 +15,10 @@ use Rattle.messages.specs.declared.«system_exclusive».IdentityReply.{Identity
 use Rattle.messages.specs.declared.«system_exclusive».ManufacturerID.the-variants.{OneByte, Extended}
 use Rattle.messages.specs.declared.«sample_dump».SampleDumpMsg.the-variants as sample
 use Rattle.messages.specs.declared.«sample_dump».ExtendedSampleDumpMsg.the-variants as extended
-use Rattle.messages.specs.declared.«sample_dump».LoopType.the-variants as loop
-use Rattle.messages.specs.declared.«sample_dump».ExtendedLoopType.the-variants as ext
 use Rattle.messages.specs.declared.«file_dump».FileDumpMsg.the-variants as file
 use Rattle.messages.specs.declared.tuning.TuningBank.the-variants.{NoBank, Bank}
 use Rattle.messages.specs.declared.«general_midi».GeneralMidi.the-variants.{GM1, Off, GM2}
-use Rattle.messages.specs.declared.«file_reference».FileReferenceType.the-variants.{DLS, SF2, WAV}
+use Rattle.messages.specs.declared.«file_reference».FileReferenceType.the-variants.{WAV}
 use Rattle.messages.specs.declared.«file_reference».SelectMap.the-variants as select
 use Rattle.messages.specs.declared.«file_reference».FileReferenceMsg.the-variants as reference
 use Rattle.messages.specs.declared.«system_exclusive».UniversalNonRealTimeMsg.the-variants as msg

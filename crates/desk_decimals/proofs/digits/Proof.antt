@@ -5,7 +5,6 @@ use lib.ListN.{length, drop}
 use Prim.Native.Nat.{_-_}
 use borrow.Author.Needs.{needs}
 use mathlib.Core.Path.{refl, sym, _∙_}
-use denote.Ref.{now}
 use Rattle.desk_decimals.specs.Decimal.{after}
 use Rattle.desk_decimals.proofs.Laws.{after-low, after-high, after-large, after-digit, after-end}
 use Rattle.desk_decimals.proofs.digits.Statement.{statement}

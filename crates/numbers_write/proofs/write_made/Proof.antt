@@ -1,7 +1,6 @@
 -- `numbers_write::write_made` meets its contract: the writer's answer in numbers.
 -- Assumes nothing.
 use mathlib.Core.Path.{sym, _∙_}
-use denote.Ref.{now}
 use Rattle.numbers_write.proofs.Laws.{wrote, unwritten}
 use borrow.Author.Needs.{needs}
 use Rattle.numbers_write.proofs.write_made.Statement.{statement}

@@ -52,6 +52,3 @@ reads-is h f w = found-answer AllCall h (form h .read f) (w .says AllCall)
 
 pub reads-not : (h : Head) (f : List ℕ) → Reads h Nothing f → false ≡ is-read (form h .read f)
 reads-not h f w = nothing-answer AllCall h (form h .read f) (w .says AllCall)
-
-pub false-true : false ≡ true → ⊥
-false-true e = let z : _≡_ {A = ℕ} 0 1 = cc in omega arith

@@ -12,7 +12,7 @@ use Rattle.util.specs.Groups.{Seven}
 use Rattle.messages.specs.format.Core.{Part, got}
 use Rattle.messages.specs.format.Lists.{all-read, all-bytes}
 use Rattle.messages.specs.Fields.{u7}
-use Rattle.read_places.specs.Places.{value-at, entries-at}
+use Rattle.read_places.specs.Places.{entries-at}
 use Rattle.read_places.proofs.Laws.Numbers.{unsigned-at, value-get}
 
 -- n bytes from i on

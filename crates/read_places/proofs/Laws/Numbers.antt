@@ -1,20 +1,17 @@
 -- Numbers read by place: what a field of the layouts reads from i on, in bytes below 128.
 -- Assumes nothing.
-use mathlib.Core.Path.{_≡_, refl, sym, ap, _∙_}
-use mathlib.Core.Bool.{Bool, true, false}
+use mathlib.Core.Path.{_≡_}
 use mathlib.Core.List.{List, [], _∷_}
-use Prim.Native.Nat.{ℕ, zero, suc, _+_, _*_, _^_, _<_, _≤_}
-use native.Mathlib.Nat.{zero-add, add-zero, le-refl}
+use Prim.Native.Nat.{ℕ, zero, suc, _+_, _^_, _<_, _≤_}
 use native.Mathlib.Omega.{arith}
 use native.Mathlib.Numerals.{add-one}
-use lib.Dec.{eqb}
-use lib.ListN.{length, take, drop, getD, length-drop, drop-of-length-le}
+use lib.ListN.{length, take, drop, getD, length-drop}
 use lib.Seq.{drop-cons, drop-drop, length-take-le}
-use borrow.Author.Tests.{lt-ltb, le-leb, ltb-true, eq-eqb}
-use Rattle.util.specs.Groups.{Seven, seven, value, value-high}
+use borrow.Author.Tests.{lt-ltb, le-leb}
+use Rattle.util.specs.Groups.{Seven, value-high}
 use Rattle.util.proofs.Laws.Groups.{seven-take, seven-drop, true-seven, value-below, value-high-below}
 use Rattle.util.proofs.Laws.Places.{value-one}
-use Rattle.messages.specs.format.Core.{Got, bad, got, guard}
+use Rattle.messages.specs.format.Core.{got}
 use Rattle.messages.specs.format.Numbers.{unsigned, unsigned-high, unsigned-high-below, read-range}
 use Rattle.read_places.specs.Places.{value-at}
 

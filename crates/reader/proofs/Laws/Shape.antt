@@ -13,9 +13,9 @@ use Rattle.util.specs.Groups.{Seven, seven}
 use Rattle.util.proofs.Laws.Groups.{true-seven}
 use Rattle.util.proofs.Laws.Options.{not-some}
 use Rattle.messages.specs.declared.«file_reference».Kind.{Kind}
-use Rattle.messages.specs.Messages.{Message, Answer, given, inside, read-inside, readOf}
+use Rattle.messages.specs.Messages.{Message, Answer, inside, read-inside, readOf}
 use Rattle.messages.specs.Walk.{is-given, is-frame}
-use Rattle.messages.proofs.Exact.{inside-back, inside-shaped, refused-given}
+use Rattle.messages.proofs.Exact.{inside-back, inside-shaped}
 use Rattle.reader.specs.Opening.{inner}
 
 pub short-none : (l : List ℕ) → length l < 6 → inside l ≡ none
@@ -64,21 +64,6 @@ inside-is l h a b s =
     let k : length (inner l) ≡ n = length-take n (drop 1 l) ∙ omega (arith, length-drop 1 l) in
     ap inside (ends l n e ∙ ap₂ (λ (x : ℕ) (y : ℕ). x ∷ (take n (drop 1 l) ++ (y ∷ []))) a (rw f at b))
     ∙ inside-back (inner l) s (omega arith)
-
--- what is read has six bytes or more, and lies below 128 between F0 and F7
-read-given : (k : Kind) (l : List ℕ) (m : Message) → readOf k l ≡ given m → Seven (inner l) × (6 ≤ length l)
-unfolding readOf
-read-given k l m e = by (inside l) refl e
-  where
-    by : (o : Option (List ℕ)) → inside l ≡ o → read-inside k o ≡ given m → Seven (inner l) × (6 ≤ length l)
-    by none i e = absurd (refused-given e)
-    by (some mid) i e = (rw (inside-inner l mid i) (inside-shaped l mid i .1), inside-shaped l mid i .2)
-
-pub read-seven : (k : Kind) (l : List ℕ) (m : Message) → readOf k l ≡ given m → Seven (inner l)
-read-seven k l m e = read-given k l m e .0
-
-pub read-long : (k : Kind) (l : List ℕ) (m : Message) → readOf k l ≡ given m → 6 ≤ length l
-read-long k l m e = read-given k l m e .1
 
 -- what is read, by what stands inside
 pub read-of : (k : Kind) (l : List ℕ) {o : Option (List ℕ)} → inside l ≡ o → read-inside k o ≡ readOf k l

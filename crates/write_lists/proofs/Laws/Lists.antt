@@ -9,6 +9,7 @@ use native.Mathlib.Numerals.{add-one}
 use native.Mathlib.Omega.{arith}
 use lib.ListN.{length, take, drop, getD, length-append, length-take, drop-of-length-le, List·getD-eq-default}
 use lib.Seq.{drop-cons}
+use Rattle.messages.proofs.Formats.{all-size}
 use Rattle.messages.specs.format.Core.{Part, written}
 use Rattle.messages.specs.format.Lists.{all-settle, all-bytes, all-length, filled, filled-length, exactly, counted}
 use Rattle.write_lists.specs.Writing.{items}
@@ -31,20 +32,16 @@ module _ {A : Type 0} (p : Part A) where
   -- ---- how long a list is
 
   module _ (k : ℕ) (one : (a : A) → length (p .bytes a) ≡ k) where
-    pub all-size : (l : List A) → length (all-bytes p l) ≡ k * length l
-    all-size [] = omega arith
-    all-size (x ∷ l) = length-append (p .bytes x) (all-bytes p l) ∙ omega (arith, one x, all-size l)
-
     pub exactly-size : (n : ℕ) (fill : ℕ → A) (fn : (i : ℕ) → p .refuses (fill i) ≡ none) (l : List A)
         → length (written (exactly p n fill fn) l) ≡ k * n
     exactly-size n fill fn l =
-        all-size (all-settle p (filled p n fill fn 0 n l))
+        all-size p k one (all-settle p (filled p n fill fn 0 n l))
         ∙ ap (λ (m : ℕ). k * m) (all-length p (filled p n fill fn 0 n l) ∙ filled-length p n fill fn 0 n l)
 
     pub counted-size : (l : List A) → length (written (counted p) l) ≡ 1 + k * min (length l) 127
     counted-size l =
         let e : length (all-settle p (take 127 l)) ≡ min (length l) 127 = all-length p (take 127 l) ∙ omega (arith, length-take 127 l) in
-        ap suc (all-size (all-settle p (take 127 l)) ∙ ap (λ (m : ℕ). k * m) e) ∙ omega arith
+        ap suc (all-size p k one (all-settle p (take 127 l)) ∙ ap (λ (m : ℕ). k * m) e) ∙ omega arith
 
   -- ---- entries one after another
 

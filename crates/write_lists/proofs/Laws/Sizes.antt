@@ -1,14 +1,13 @@
--- How many bytes follow the front of a message, and how many that can be.
+-- How many bytes follow the front of a message, and the most that a map has.
 -- Assumes nothing.
 use mathlib.Core.Path.{_≡_, refl, ap, _∙_}
 use mathlib.Core.Option.{none}
 use mathlib.Core.List.{List, [], _∷_, _++_, map}
-use Prim.Native.Nat.{ℕ, _+_, _*_, _≤_, _<_, _^_, min}
+use Prim.Native.Nat.{ℕ, _+_, _*_, _≤_, min}
 use native.Mathlib.Omega.{arith}
 use lib.Dec.{leb}
 use lib.ListN.{length, take, length-append, length-take, length-map}
 use borrow.Author.Tests.{leb-true}
-use Rattle.util.specs.Limits.{most-name}
 use Rattle.util.proofs.Laws.Options.{unless-none}
 use Rattle.util.specs.declared.refusal.Refusal.the-variants.{Long}
 use Rattle.messages.specs.declared.tuning.MaybeTuning.the-variants.{Tuned}
@@ -18,14 +17,13 @@ use Rattle.messages.specs.declared.«file_dump».FileDumpMsg.{FileDumpMsg}
 use Rattle.messages.specs.declared.«file_reference».SelectMap.{SelectMap}
 use Rattle.messages.specs.declared.«file_reference».FileReferenceMsg.{FileReferenceMsg}
 use Rattle.messages.specs.declared.«system_exclusive».UniversalNonRealTimeMsg.{UniversalNonRealTimeMsg}
-use Rattle.messages.specs.Refusals.{least, least-none}
 use Rattle.messages.specs.format.Core.{written}
-use Rattle.messages.specs.Fields.{u7, tuning, high, type-bytes, name-of-16, sample-name, url}
+use Rattle.messages.specs.Fields.{u7, tuning, name-of-16, sample-name, url}
 use Rattle.messages.specs.Structures.{samples, key-tuning}
 use Rattle.messages.specs.Maps.{sound-file-map}
 use Rattle.messages.specs.Entries.{tuning-of, change-of, map-of}
-use Rattle.messages.specs.Contents.{contents, longer, too-large}
-use Rattle.messages.specs.MessageOf.{headOf, fieldsOf, head-file, fields-file}
+use Rattle.messages.specs.Contents.{contents, longer}
+use Rattle.messages.specs.MessageOf.{headOf, fieldsOf}
 use Rattle.write_lists.specs.Parts.{part-sample, part-extended, part-file, part-keys, part-changes, part-maps, part-select, part-reference, partOf, size-sample, size-extended, size-file, size-select, size-reference, part-size}
 use Rattle.write_lists.proofs.Laws.Lists.{exactly-size, counted-size}
 use Rattle.write_lists.proofs.Laws.Packs.{length-pack}
@@ -55,7 +53,7 @@ length-changes : (entries : List ℕ) → length (part-changes entries) ≡ 1 + 
 length-changes entries =
     counted-size key-tuning 4 (λ a. refl) (map change-of entries) ∙ ap (λ (n : ℕ). 1 + 4 * min n 127) (length-map entries change-of)
 
-length-maps : (entries : List ℕ) → length (part-maps entries) ≡ 1 + 8 * min (length entries) 127
+pub length-maps : (entries : List ℕ) → length (part-maps entries) ≡ 1 + 8 * min (length entries) 127
 length-maps entries =
     counted-size sound-file-map 8 (λ a. refl) (map map-of entries) ∙ ap (λ (n : ℕ). 1 + 8 * min n 127) (length-map entries map-of)
 
@@ -129,96 +127,9 @@ length-part msg.Cancel text entries h = refl
 length-part (msg.NAK n) text entries h = refl
 length-part (msg.ACK n) text entries h = refl
 
--- ---- how many that can be
-
-size-sample-most : (m : SampleDumpMsg) → size-sample m ≤ 120
-size-sample-most (sample.Header n f p l s e t) = omega arith
-size-sample-most (sample.Packet c) = omega arith
-size-sample-most (sample.Request n) = omega arith
-size-sample-most (sample.LoopPointTransmission n i t s e) = omega arith
-size-sample-most (sample.LoopPointsRequest n i) = omega arith
-
-size-extended-most : (m : ExtendedSampleDumpMsg) (x : ℕ) → size-extended m x ≤ 128
-size-extended-most (extended.SampleName n) x = omega arith
-size-extended-most (extended.SampleNameRequest n) x = omega arith
-size-extended-most (extended.Header n f w r l s e t c) x = omega arith
-size-extended-most (extended.LoopPointTransmission n i t s e) x = omega arith
-size-extended-most (extended.LoopPointsRequest n i) x = omega arith
-
-size-file-most : (m : FileDumpMsg) (x : ℕ) → size-file m x ≤ 2 * x + 2
-size-file-most (file.Header s t l) x = omega arith
-size-file-most (file.Packet c) x = omega arith
-size-file-most (file.Request r t) x = omega arith
-
+-- the most bytes of a map
 pub size-select-most : (m : SelectMap) (y : ℕ) → size-select m y ≤ 1017
 size-select-most select.SoundFile y = omega arith
 size-select-most (select.WAV m) y = omega arith
 size-select-most (select.SoundFileBankOffset o d) y = omega arith
 size-select-most (select.WAVBankOffset m o d) y = omega arith
-
-size-reference-most : (m : FileReferenceMsg) (x y : ℕ) → size-reference m x y ≤ 1278
-size-reference-most (reference.Open c t) x y = omega arith
-size-reference-most (reference.SelectContents c m) x y = omega (arith, size-select-most m y)
-size-reference-most (reference.OpenSelectContents c t m) x y = omega (arith, size-select-most m y)
-size-reference-most (reference.Close c) x y = omega arith
-
--- for any text and entries
-pub part-most : (m : UniversalNonRealTimeMsg) (x y : ℕ) → part-size m x y ≤ 2 * x + 4 * y + 1278
-part-most (msg.SampleDump m) x y = omega (arith, size-sample-most m)
-part-most (msg.ExtendedSampleDump m) x y = omega (arith, size-extended-most m x)
-part-most msg.IdentityRequest x y = omega arith
-part-most (msg.IdentityReply r) x y = omega arith
-part-most (msg.FileDump m) x y = omega (arith, size-file-most m x)
-part-most (msg.TuningBulkDumpRequest b p) x y = omega arith
-part-most (msg.KeyBasedTuningDump k) x y = omega arith
-part-most (msg.ScaleTuningDump1Byte s) x y = omega arith
-part-most (msg.ScaleTuningDump2Byte s) x y = omega arith
-part-most (msg.TuningNoteChange c) x y = omega arith
-part-most (msg.ScaleTuning1Byte s) x y = omega arith
-part-most (msg.ScaleTuning2Byte s) x y = omega arith
-part-most (msg.GeneralMidi g) x y = omega arith
-part-most (msg.FileReference m) x y = omega (arith, size-reference-most m x y)
-part-most msg.EOF x y = omega arith
-part-most msg.Wait x y = omega arith
-part-most msg.Cancel x y = omega arith
-part-most (msg.NAK n) x y = omega arith
-part-most (msg.ACK n) x y = omega arith
-
--- such a size fits what `part_size` answers
-pub part-fits : (m : UniversalNonRealTimeMsg) (x y : ℕ) → x < 2 ^ 60 → y < 2 ^ 60 → part-size m x y < 2 ^ 64
-part-fits m x y hx hy = omega (arith, part-most m x y)
-
--- a file's contents: a name of at most 1,024 bytes, or data of at most 111
-small-file : (m : FileDumpMsg) (text : List ℕ) → contents (head-file m) (fields-file m text) ≡ none → size-file m (length text) ≤ 1024
-small-file (file.Header s t l) text h =
-    let a = least-none (high (type-bytes t)) (least (too-large l) (least (longer most-name text) (high text))) h in
-    let b = least-none (too-large l) (least (longer most-name text) (high text)) (a .1) in
-    not-longer most-name text (least-none (longer most-name text) (high text) (b .1) .0)
-small-file (file.Packet c) text h = omega (arith, not-longer 111 text h)
-small-file (file.Request r t) text h =
-    let a = least-none (high (type-bytes t)) (least (longer most-name text) (high text)) h in
-    not-longer most-name text (least-none (longer most-name text) (high text) (a .1) .0)
-
--- for admitted contents
-pub part-small : (m : UniversalNonRealTimeMsg) (text entries : List ℕ) → contents (headOf m) (fieldsOf m text entries) ≡ none
-    → part-size m (length text) (length entries) ≤ 1278
-part-small (msg.SampleDump m) text entries h = omega (arith, size-sample-most m)
-part-small (msg.ExtendedSampleDump m) text entries h = omega (arith, size-extended-most m (length text))
-part-small msg.IdentityRequest text entries h = omega arith
-part-small (msg.IdentityReply r) text entries h = omega arith
-part-small (msg.FileDump m) text entries h = omega (arith, small-file m text h)
-part-small (msg.TuningBulkDumpRequest b p) text entries h = omega arith
-part-small (msg.KeyBasedTuningDump k) text entries h = omega arith
-part-small (msg.ScaleTuningDump1Byte s) text entries h = omega arith
-part-small (msg.ScaleTuningDump2Byte s) text entries h = omega arith
-part-small (msg.TuningNoteChange c) text entries h =
-    omega (arith, not-longer 127 (map change-of entries) h, length-map entries change-of)
-part-small (msg.ScaleTuning1Byte s) text entries h = omega arith
-part-small (msg.ScaleTuning2Byte s) text entries h = omega arith
-part-small (msg.GeneralMidi g) text entries h = omega arith
-part-small (msg.FileReference m) text entries h = omega (arith, size-reference-most m (length text) (length entries))
-part-small msg.EOF text entries h = omega arith
-part-small msg.Wait text entries h = omega arith
-part-small msg.Cancel text entries h = omega arith
-part-small (msg.NAK n) text entries h = omega arith
-part-small (msg.ACK n) text entries h = omega arith

@@ -116,11 +116,6 @@ kind-entries t (select.WAV m) entries = refl
 kind-entries t (select.SoundFileBankOffset o d) entries = refl
 kind-entries t (select.WAVBankOffset m o d) entries = refl
 
--- "SF2 " is of the kind that "DLS " is
-pub kind-sf2 : (x : AnySelect) → other-kind SF2 x ≡ other-kind DLS x
-kind-sf2 (bankSelect x) = refl
-kind-sf2 (wavSelect x) = refl
-
 -- ---- what the messages are refused for
 
 pub sample-none : (m : SampleDumpMsg) (text : List ℕ) → contents (head-sample m) (fields-sample m text) ≡ none

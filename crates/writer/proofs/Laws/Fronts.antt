@@ -1,11 +1,12 @@
 -- Laws of fields that are held or mapped: what the layouts write of them is what the fronts have.
 -- Assumes nothing.
 use mathlib.Core.Path.{_≡_, refl}
+use mathlib.Core.List.{[], _∷_}
 use Prim.Native.Nat.{ℕ, _≤_, _%_, min}
 use native.Mathlib.Omega.{arith}
 use lib.Dec.{eqb}
 use Rattle.util.specs.Pick.{pick}
-use Rattle.util.specs.Groups.{groups, held}
+use Rattle.util.specs.Groups.{held}
 use Rattle.messages.specs.declared.«system_exclusive».DeviceID.{DeviceID}
 use Rattle.messages.specs.declared.«sample_dump».LoopNumber.{LoopNumber}
 use Rattle.messages.specs.declared.«sample_dump».LoopNumber.the-variants.{Loop}
@@ -15,8 +16,7 @@ use Rattle.messages.specs.declared.«sample_dump».ExtendedLoopType.{ExtendedLo
 use Rattle.messages.specs.declared.«sample_dump».ExtendedLoopType.the-variants as ext
 use Rattle.messages.specs.format.Texts.{lookup-same}
 use Rattle.messages.specs.Fields.{device-byte, device-of, device-same, loop-value, loop-same, Four, type-chars, type-of, same-four, custom-type, same-four-true, named-types}
-use Rattle.messages.specs.Structures.{loop-code, extended-loop-code}
-use Rattle.messages.specs.Structures.{loop-byte, extended-loop-byte}
+use Rattle.messages.specs.Structures.{loop-code, extended-loop-code, loop-byte, extended-loop-byte}
 use Rattle.write_fronts.specs.Fronts.{clamp}
 
 -- a byte of at most 127 is its own group
@@ -45,12 +45,12 @@ pub letters-same : (x : Four) → type-chars (type-of x) ≡ x
 letters-same x = lookup-same same-four type-chars custom-type same-four-true (λ c. refl) named-types x
 
 -- a loop type's byte
-pub loop-bytes : (t : LoopType) → loop-code t ≡ groups 1 (held 1 (loop-byte t))
+pub loop-bytes : (t : LoopType) → loop-code t ≡ loop-byte t ∷ []
 loop-bytes loop.Forward = refl
 loop-bytes loop.BiDirectional = refl
 loop-bytes loop.Off = refl
 
-pub extended-loop-bytes : (t : ExtendedLoopType) → extended-loop-code t ≡ groups 1 (held 1 (extended-loop-byte t))
+pub extended-loop-bytes : (t : ExtendedLoopType) → extended-loop-code t ≡ extended-loop-byte t ∷ []
 extended-loop-bytes ext.Forward = refl
 extended-loop-bytes ext.BiDirectional = refl
 extended-loop-bytes ext.ForwardRelease = refl
@@ -61,3 +61,10 @@ extended-loop-bytes ext.BackwardRelease = refl
 extended-loop-bytes ext.BackwardBiDirectionalRelease = refl
 extended-loop-bytes ext.BackwardOneShot = refl
 extended-loop-bytes ext.OneShot = refl
+
+pub loop-low : (t : LoopType) → held 1 (loop-byte t) % 128 ≡ loop-byte t
+loop-low = elim [ loop.Forward ↦ refl | loop.BiDirectional ↦ refl | loop.Off ↦ refl ]
+
+pub extended-loop-low : (t : ExtendedLoopType) → held 1 (extended-loop-byte t) % 128 ≡ extended-loop-byte t
+extended-loop-low =
+    elim [ ext.Forward ↦ refl | ext.BiDirectional ↦ refl | ext.ForwardRelease ↦ refl | ext.BiDirectionalRelease ↦ refl | ext.Backward ↦ refl | ext.BackwardBiDirectional ↦ refl | ext.BackwardRelease ↦ refl | ext.BackwardBiDirectionalRelease ↦ refl | ext.BackwardOneShot ↦ refl | ext.OneShot ↦ refl ]

@@ -12,7 +12,6 @@ use Rattle.messages.specs.declared.«system_exclusive».UniversalNonRealTimeMsg
 use Rattle.messages.specs.Fields.{device-byte}
 use Rattle.messages.specs.Messages.{Answer, given, writeOf}
 use Rattle.messages.specs.MessageOf.{messageOf}
-use Rattle.writer.specs.declared.handshake.Handshake.{Handshake}
 use Rattle.writer.specs.declared.handshake.Handshake.the-variants.{Of, Other}
 use Rattle.writer.specs.Frames.{wire, frame-of}
 use Rattle.writer.specs.Handshakes.{handshake-of, handshake-frame}

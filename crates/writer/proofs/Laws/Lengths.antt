@@ -18,8 +18,6 @@ use Rattle.messages.specs.declared.«sample_dump».ExtendedSampleDumpMsg.{Exten
 use Rattle.messages.specs.declared.«sample_dump».ExtendedSampleDumpMsg.the-variants as extended
 use Rattle.messages.specs.declared.«file_dump».FileDumpMsg.{FileDumpMsg}
 use Rattle.messages.specs.declared.«file_dump».FileDumpMsg.the-variants as file
-use Rattle.messages.specs.declared.«file_reference».SelectMap.{SelectMap}
-use Rattle.messages.specs.declared.«file_reference».SelectMap.the-variants as select
 use Rattle.messages.specs.declared.«file_reference».FileReferenceMsg.{FileReferenceMsg}
 use Rattle.messages.specs.declared.«file_reference».FileReferenceMsg.the-variants as reference
 use Rattle.messages.specs.declared.«system_exclusive».UniversalNonRealTimeMsg.{UniversalNonRealTimeMsg}
@@ -29,7 +27,8 @@ use Rattle.messages.specs.Fields.{high, type-bytes}
 use Rattle.messages.specs.Entries.{change-of}
 use Rattle.messages.specs.Contents.{contents, too-large, longer}
 use Rattle.messages.specs.MessageOf.{headOf, fieldsOf, head-file, fields-file}
-use Rattle.write_lists.specs.Parts.{part-size, size-sample, size-extended, size-file, size-select, size-reference}
+use Rattle.write_lists.specs.Parts.{part-size, size-sample, size-extended, size-file, size-reference}
+use Rattle.write_lists.proofs.Laws.Sizes.{size-select-most}
 use Rattle.writer.proofs.Laws.Contents.{length-map}
 
 -- a list that is not too long
@@ -64,16 +63,10 @@ file-small (file.Header s t l) text z =
 file-small (file.Packet c) text z = let h = not-longer 111 (length text) z in omega arith
 file-small (file.Request r t) text z = let h = name-short (type-bytes t) text z in omega arith
 
-select-small : (m : SelectMap) (y : ℕ) → size-select m y ≤ 1017
-select-small select.SoundFile y = omega arith
-select-small (select.WAV m) y = omega arith
-select-small (select.SoundFileBankOffset o d) y = omega arith
-select-small (select.WAVBankOffset m o d) y = omega arith
-
 reference-small : (m : FileReferenceMsg) (x y : ℕ) → size-reference m x y ≤ 2048
 reference-small (reference.Open c t) x y = omega arith
-reference-small (reference.SelectContents c m) x y = omega (arith, select-small m y)
-reference-small (reference.OpenSelectContents c t m) x y = omega (arith, select-small m y)
+reference-small (reference.SelectContents c m) x y = omega (arith, size-select-most m y)
+reference-small (reference.OpenSelectContents c t m) x y = omega (arith, size-select-most m y)
 reference-small (reference.Close c) x y = omega arith
 
 pub part-small : (m : UniversalNonRealTimeMsg) (text entries : List ℕ) → contents (headOf m) (fieldsOf m text entries) ≡ none

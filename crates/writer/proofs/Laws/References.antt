@@ -2,7 +2,7 @@
 -- Assumes nothing.
 use mathlib.Core.Path.{_≡_, refl, ap}
 use mathlib.Core.Option.{none, some}
-use mathlib.Core.List.{List, [], _∷_, _++_, map}
+use mathlib.Core.List.{List, [], _∷_, _++_}
 use Prim.Native.Nat.{ℕ, _+_, _*_, _≤_, min}
 use native.Mathlib.Omega.{arith}
 use lib.Dec.{lit≤}
@@ -19,26 +19,18 @@ use Rattle.messages.specs.declared.«file_reference».FileReferenceMsg.{FileRef
 use Rattle.messages.specs.declared.«file_reference».FileReferenceMsg.the-variants as reference
 use Rattle.messages.specs.Refusals.{least, least-none}
 use Rattle.messages.specs.format.Core.{written}
-use Rattle.messages.specs.format.Lists.{all-settle, all-length}
 use Rattle.messages.specs.Fields.{url}
-use Rattle.messages.specs.Maps.{sound-file-map, maps-size, reference-code, reference-size}
-use Rattle.messages.specs.Entries.{map-of}
+use Rattle.messages.specs.Maps.{reference-code, reference-size}
 use Rattle.messages.specs.Contents.{contents, high-url, other-kind}
 use Rattle.messages.specs.MessageOf.{head-reference, fields-reference, head-select, fields-select, any-select}
 use Rattle.write_fronts.specs.Fronts.{front-reference, start-2, map-length}
 use Rattle.write_lists.specs.Parts.{part-reference, part-select, part-maps}
-use Rattle.writer.proofs.Laws.Contents.{length-map}
+use Rattle.write_lists.proofs.Laws.Sizes.{length-maps}
 use Rattle.writer.proofs.Laws.Frames.{body-of}
-
--- "number (at most 127, surplus dropped) and eight bytes each"
-maps-count : (entries : List ℕ) → length (part-maps entries) ≡ 1 + 8 * min (length entries) 127
-maps-count entries =
-    let l = take 127 (map map-of entries) in
-    omega (arith, maps-size (all-settle sound-file-map l), all-length sound-file-map l, length-take 127 (map map-of entries), length-map map-of entries)
 
 -- the length of a bank's map, held to two groups
 maps-held : (entries : List ℕ) → length (part-maps entries) ≡ held 2 (1 + 8 * min (length entries) 127)
-maps-held entries = omega (arith, maps-count entries)
+maps-held entries = omega (arith, length-maps entries)
 
 -- the length of 0B 01's type, URL and 00, held to two groups
 url-held : (t : FileReferenceType) (text : List ℕ) → length (reference-code t ++ (take 260 text ++ (0 ∷ []))) ≡ held 2 (5 + min (length text) 260)
@@ -72,11 +64,11 @@ pub both-parts : (v c : ℕ) (t : FileReferenceType) (m : SelectMap) (text entri
     → least (high-url text) (other-kind t (any-select m entries)) ≡ none
     → body-of v head.FileReferenceOpenSelect (fields-reference (reference.OpenSelectContents c t m) text entries)
     ≡ front-reference v (reference.OpenSelectContents c t m) (length text) (length entries) ++ (written url text ++ part-select m entries)
-both-parts v c DLS select.SoundFile text entries z = rw (both-held text (length (part-maps entries)) (1 + 8 * min (length entries) 127) (maps-count entries) (omega arith))
+both-parts v c DLS select.SoundFile text entries z = rw (both-held text (length (part-maps entries)) (1 + 8 * min (length entries) 127) (length-maps entries) (omega arith))
 both-parts v c DLS (select.WAV m) text entries z = kind-not text z
 both-parts v c DLS (select.SoundFileBankOffset o d) text entries z = rw (both-held text 7 7 refl (lit≤ tt))
 both-parts v c DLS (select.WAVBankOffset m o d) text entries z = kind-not text z
-both-parts v c SF2 select.SoundFile text entries z = rw (both-held text (length (part-maps entries)) (1 + 8 * min (length entries) 127) (maps-count entries) (omega arith))
+both-parts v c SF2 select.SoundFile text entries z = rw (both-held text (length (part-maps entries)) (1 + 8 * min (length entries) 127) (length-maps entries) (omega arith))
 both-parts v c SF2 (select.WAV m) text entries z = kind-not text z
 both-parts v c SF2 (select.SoundFileBankOffset o d) text entries z = rw (both-held text 7 7 refl (lit≤ tt))
 both-parts v c SF2 (select.WAVBankOffset m o d) text entries z = kind-not text z

@@ -4,7 +4,7 @@ use mathlib.Core.Path.{_≡_, refl, sym, _∙_}
 use Prim.Native.Nat.{_+_, _-_, _≤_}
 use native.Mathlib.Omega.{arith}
 use denote.Ref.{now}
-use lib.ListN.{length, replicate}
+use lib.ListN.{replicate}
 use borrow.Author.Tests.{not-true, not-false}
 use borrow.Author.Needs.{needs}
 use Rattle.numbers_to_message.specs.declared.fit.NumberType.the-variants.{I16}

@@ -4,8 +4,6 @@ use borrow.Author.Tests.{ne-eqb}
 use Rattle.pasoreum.specs.Kinds.{kind-of}
 use Rattle.pasoreum.proofs.kinds.kind_of.Statement.{statement}
 use Rattle.pasoreum.proofs.kinds.kind_of.Tie as tie
-use Rattle.pasoreum.proofs.kinds.kind_of.Reads as reads
-use Rattle.pasoreum.proofs.kinds.kind_of.Lts as lts
 
 returns : tie.Need-returns
 unfolding kind-of

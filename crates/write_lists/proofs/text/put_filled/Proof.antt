@@ -1,6 +1,6 @@
 -- `write_lists::text::put_filled` meets its contract: the bytes that are there, and after them those that fill.
 -- Assumes nothing.
-use mathlib.Core.List.{List, _++_}
+use mathlib.Core.List.{_++_}
 use mathlib.Core.Path.{_≡_, sym, ap, _∙_}
 use Prim.Native.Nat.{ℕ, _-_}
 use native.Mathlib.Omega.{arith}
