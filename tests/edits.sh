@@ -1,10 +1,10 @@
 #!/usr/bin/env bash
-# tests/edits.sh CRATE..: tries each replacement of the must-fail edits of these crates by itself; the gate tries those of one file together.
-# Proves the crates first.
+# tests/edits.sh [CRATE..]: tries the edits of tests/edits/CRATE, which the gate does not try: the prover has to refuse each. All crates that have some without a name.
 set -eu
 here=$(cd "$(dirname "$0")/.." && pwd)
 cd "$here"
-rt check "${@:?the crates whose edits to try}" > /dev/null
+[ $# -gt 0 ] || set -- $(ls tests/edits)
+rt check "$@" > /dev/null
 for crate in "$@"; do
     work=$(mktemp -d)
     trap 'rm -rf "$work"' EXIT
@@ -12,13 +12,7 @@ for crate in "$@"; do
     cp -r crates crates.txt "$work"
     cp -r target/rlib target/stamp "$work/target"
     rm -rf "$work"/crates/*/must-fail
-    mkdir "$work/crates/$crate/must-fail"
-    for edit in "crates/$crate/must-fail"/*.edit; do
-        awk -v to="$work/crates/$crate/must-fail/$(basename "$edit" .edit)" '
-            /^file: / { file = $0 }
-            /^old: / { old = $0 }
-            /^new:/ { n++; printf "%s\n%s\n%s\n", file, old, $0 > (to "_" n ".edit") }' "$edit"
-    done
+    cp -r "tests/edits/$crate" "$work/crates/$crate/must-fail"
     (cd "$work" && rt must-fail "$crate") | grep "must-fail\|^rt: ok"
     rm -rf "$work"
 done
