@@ -1,6 +1,6 @@
 // Words as numbers: whole numbers, and signed numbers with up to four decimals.
 pub mod cents;
-pub mod parts;
+pub mod fractions;
 
 ghost use mathlib.Core.Path.{_≡_};
 ghost use Rattle.desk_decimals.specs.Decimal.{after, number-of};

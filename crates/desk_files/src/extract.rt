@@ -5,6 +5,7 @@ use super::list;
 use super::show;
 use desk_io::output;
 use desk_io::pieces;
+use desk_io::pieces::PIECE;
 use desk_io::pieces::Piece;
 use messages::file_dump::FileDumpMsg;
 use messages::file_reference::Kind;
@@ -146,7 +147,7 @@ fn join_into(fd: i32, path: &[u8], kind: Kind, to: &[u8], errors: i32) {
     }
     let mut room = io::large_buffer();
     let mut index = [0u32; 21844];
-    let j = join_open(fd, kind, &mut room[0..65535], &mut index, out);
+    let j = join_open(fd, kind, &mut room[0..PIECE], &mut index, out);
     let is_whole = j.is_whole();
     if !is_whole {
         j.explain(path, errors);
@@ -218,7 +219,7 @@ pub fn extract(path: &[u8], kind: Kind, offset: u64, to: &[u8], errors: i32) {
     if n == 0 {
         return;
     }
-    let frame = frames::front(util::bytes::sub_slice(&room, 0, n));
+    let frame = frames::first(util::bytes::sub_slice(&room, 0, n));
     if frame.len() == 0 {
         return show::no_message(path, offset, errors);
     }

@@ -29,7 +29,7 @@ pub fn end_from(s: &[u8], from: usize) -> usize
 }
 
 // The stretch from an F0 at the start up to the next F7; nothing where there is none.
-pub fn front(s: &[u8]) -> &[u8] {
+pub fn first(s: &[u8]) -> &[u8] {
     if at(s, 0) != 0xF0 {
         return &s[0..0];
     }

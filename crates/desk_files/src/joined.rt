@@ -4,6 +4,9 @@ use desk_print::complain;
 use desk_print::complain_number;
 use messages::file_dump::FileDumpMsg;
 use messages::system_exclusive::UniversalNonRealTimeMsg;
+ghost use mathlib.Core.Path.{_≡_};
+ghost use Prim.Native.Nat.{_+_, _%_, _<_};
+ghost use Rattle.desk_files.specs.Joined.{is-next};
 
 // How a file dump ended: not yet, by its end, by another dump, by a cancel, by a missing packet, by a write that failed.
 pub enum End {
@@ -26,8 +29,20 @@ pub struct Joined {
 }
 
 // The number of the packet behind another.
-fn next_number(last: u64) -> u64 {
+fn next_number(last: u64) -> u64
+    ensures { λ r. ⌜ last < 128 → r ≡ (last + 1) % 128 ⌝ }
+{
     if last < 127 { last + 1 } else { 0 }
+}
+
+// Whether a packet may follow the last one; any may be the first.
+fn is_next(last: u64, number: u64) -> bool
+    ensures { λ r. ⌜ r ≡ is-next last number ⌝ }
+{
+    if last < 128 {
+        return next_number(last) == number;
+    }
+    true
 }
 
 impl Joined {
@@ -88,10 +103,8 @@ impl Joined {
         if last == number {
             return self;
         }
-        if last < 128 {
-            if next_number(last) != number {
-                return self.ended(End::Missing(next_number(last)));
-            }
+        if !is_next(last, number) {
+            return self.ended(End::Missing(next_number(last)));
         }
         if io::write_all(out, data) {
             return self.more(number, data.len() as u64);

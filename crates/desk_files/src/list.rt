@@ -2,6 +2,7 @@
 use super::all;
 use super::frames;
 use desk_io::pieces;
+use desk_io::pieces::PIECE;
 use desk_io::pieces::Piece;
 use desk_io::pieces::sum;
 use desk_print::complain_number;
@@ -268,7 +269,7 @@ pub fn list(path: &[u8], kind: Kind, scope: Scope, errors: i32) {
         path,
         kind,
         scope,
-        &mut room[0..65535],
+        &mut room[0..PIECE],
         &mut index,
         errors,
     );

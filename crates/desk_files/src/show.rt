@@ -124,7 +124,7 @@ pub fn show(path: &[u8], kind: Kind, offset: u64, errors: i32) {
     if n == 0 {
         return;
     }
-    let frame = frames::front(util::bytes::sub_slice(&room, 0, n));
+    let frame = frames::first(util::bytes::sub_slice(&room, 0, n));
     if frame.len() == 0 {
         return no_message(path, offset, errors);
     }

@@ -1,12 +1,14 @@
 // A file read in pieces that overlap.
 use desk_print::complain;
+use util::limits::MOST_STREAM;
 ghost use mathlib.Core.Path.{_≡_};
 ghost use Prim.Native.Nat.{ℕ, _+_, _-_, _≤_, _<_};
+ghost use lib.Dec.{eqb};
 ghost use lib.ListN.{length, getD};
 ghost use Rattle.desk_io.specs.Pieces.{NextPiece};
 
 // The bytes of a whole piece: as many as the walk takes.
-pub const PIECE: usize = 65535;
+pub const PIECE: usize = MOST_STREAM;
 
 // The bytes that two pieces share: no frame has more.
 pub const OVERLAP: usize = 4096;
@@ -48,15 +50,22 @@ pub struct Got {
     pub count: usize,
 }
 
-// Reads bytes of the file to the start of a part of the buffer.
-fn read_part(fd: i32, part: &mut [u8]) -> Got
-    ensures { λ r. ⌜ r .count ≤ length (now (part .entry)) ⌝ }
+// Reads bytes of the file to the start of a buffer.
+fn read_once(fd: i32, room: &mut [u8]) -> Got
+    ensures { λ r. ⌜ r .count ≤ length (now (room .entry)) ⌝ }
 {
-    let got = libc::read(fd, part);
+    let got = libc::read(fd, room);
     Got {
         is_failed: got < 0,
-        count: io::count(got, part),
+        count: io::count(got, room),
     }
+}
+
+// Whether a read that gave so many bytes was at the end of the file: it gave none.
+fn is_end(count: usize) -> bool
+    ensures { λ r. ⌜ r ≡ eqb count 0 ⌝ }
+{
+    count == 0
 }
 
 // Reads the file up to its end or the buffer's.
@@ -65,11 +74,11 @@ pub fn read_all(fd: i32, room: &mut [u8]) -> Got
 {
     let mut n = 0;
     while n < room.len() {
-        let got = read_part(fd, &mut room[n..]);
+        let got = read_once(fd, &mut room[n..]);
         if got.is_failed {
             return got;
         }
-        if got.count == 0 {
+        if is_end(got.count) {
             break;
         }
         n += got.count;

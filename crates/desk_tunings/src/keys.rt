@@ -2,8 +2,9 @@
 use super::lines;
 use desk_decimals::Number;
 use desk_decimals::cents;
-use desk_decimals::parts;
+use desk_decimals::fractions;
 use util::groups::at;
+use util::limits::NO_TUNING;
 
 // A key that no line has named yet.
 const UNTOLD: u64 = u64::MAX;
@@ -32,13 +33,13 @@ fn said_of(key: u64, word: &[u8]) -> Said {
         return Said::NoKey;
     }
     if is_dash(word) {
-        return Said::Entry(key as usize, parts::NO_TUNING);
+        return Said::Entry(key as usize, NO_TUNING);
     }
     let d = cents::parse_cents(word);
     if let cents::Decimals::Nothing = d {
         return Said::NoCents;
     }
-    match parts::tuned(key, d) {
+    match fractions::tuned(key, d) {
         Number::Is(n) => Said::Entry(key as usize, n),
         Number::Nothing => Said::Outside,
     }

@@ -2,7 +2,7 @@
 use super::lines;
 use desk_decimals::cents;
 use desk_decimals::cents::Decimals;
-use desk_decimals::parts;
+use desk_decimals::fractions;
 use messages::tuning::Scale1Byte;
 use messages::tuning::Scale2Byte;
 use util::signed;
@@ -129,9 +129,9 @@ fn parts_at(values: &[u64; 12], n: usize) -> i16
 {
     let v = values[n];
     if v < ZERO {
-        return below(parts::nearest_8192(ZERO - v));
+        return below(fractions::nearest_8192(ZERO - v));
     }
-    above(parts::nearest_8192(util::groups::hold(v - ZERO, 999999)))
+    above(fractions::nearest_8192(util::groups::hold(v - ZERO, 999999)))
 }
 
 // So many parts above zero.

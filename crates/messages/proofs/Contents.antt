@@ -6,7 +6,7 @@ use mathlib.Core.List.{List, [], _∷_}
 use Prim.Native.Nat.{ℕ}
 use native.Mathlib.Omega.{arith}
 use lib.ListN.{take}
-use Rattle.util.specs.Limits.{most-changes}
+use Rattle.util.specs.Limits.{most-changes, most-counted, sample-bytes}
 use Rattle.util.proofs.Laws.Options.{least-by-left}
 use Rattle.util.proofs.Laws.Refusals.{number-some}
 use Rattle.messages.specs.Types.{Refusal, Head, ManufacturerID, FileReferenceType}
@@ -45,7 +45,7 @@ reply-same (OneByte b) x = least-by-left rank _ ∙ least-by-left rank _
 reply-same (Extended a b) x = refl
 
 bank-none : (x : BankSelect) → bank-select .refuses x ≡ none
-bank-none (mapList l) = all-none sound-file-map (λ a. refl) (take 127 l)
+bank-none (mapList l) = all-none sound-file-map (λ a. refl) (take most-counted l)
 bank-none (mapOffset o) = refl
 
 wav-none : (x : WAVSelect) → wav-select .refuses x ≡ none
@@ -64,7 +64,7 @@ two-values : (a b : Option Refusal) → least (least a none) (least (least b non
 two-values a b = ap₂ least (least-by-left rank a) (least-by-left rank (least b none) ∙ least-by-left rank b)
 
 contents-same : (h : Head) (f : Fields h) → form h .refuses f ≡ contents h f
-contents-same SampleName f = then-list u7 (λ a. refl) (high (f .name)) (take 127 (f .name))
+contents-same SampleName f = then-list u7 (λ a. refl) (high (f .name)) (take most-counted (f .name))
 contents-same ExtendedHeader f = two-values (too-large (f .rate-whole)) (too-large (f .rate-fraction))
 contents-same IdentityReply f = reply-same (f .id) (f .family, (f .«family_member», revision (f .«software_revision»)))
 contents-same FileDumpHeader f = rw (least-by-left rank (high (type-bytes (f .type))), least-by-left rank (too-large (f .length)))
@@ -74,10 +74,10 @@ contents-same KeyBasedTuningDump f = name-list tuning (λ a. refl) (f .name) 16 
 contents-same BankKeyBasedTuningDump f = name-list tuning (λ a. refl) (f .name) 16 (take 128 (f .tunings))
 contents-same ScaleTuningDump1Byte f = name-then (f .name) 16
 contents-same ScaleTuningDump2Byte f = name-then (f .name) 16
-contents-same TuningNoteChange f = then-list key-tuning (λ a. refl) (longer most-changes (f .changes)) (take 127 (f .changes))
+contents-same TuningNoteChange f = then-list key-tuning (λ a. refl) (longer most-changes (f .changes)) (take most-counted (f .changes))
 contents-same FileReferenceOpen f = refl
 contents-same FileReferenceOpenSelect f = rw (map-same (f .type) (f .map))
-contents-same SampleDumpPacket f = all-none u7 (λ a. refl) (take 120 (f .samples))
+contents-same SampleDumpPacket f = all-none u7 (λ a. refl) (take sample-bytes (f .samples))
 contents-same SelectSoundFile f = bank-none (f .map)
 contents-same SelectWAV f = wav-none (f .map)
 contents-same SampleDumpHeader f = refl

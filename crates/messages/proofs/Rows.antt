@@ -9,6 +9,7 @@ use Prim.Native.Nat.{ℕ, _%_, _<_, _≤_}
 use native.Mathlib.Omega.{arith}
 use lib.Dec.{eqb}
 use lib.ListN.{length, length-append}
+use Rattle.util.specs.Limits.{all-call}
 use Rattle.util.specs.Groups.{Seven}
 use Rattle.util.specs.Checksum.{checksum}
 use Rattle.util.proofs.Laws.Options.{none-some}
@@ -156,7 +157,7 @@ same-code k ACK = (ACK, (refl, refl))
 device-some : (d : ℕ) → d < 128 → (v : DeviceID) × (field.device .settled v × (field.device .bytes v ≡ d ∷ []))
 device-some d h =
     let v = field.device-of d in
-    let e : field.device-byte v ≡ d = field.device-same d (eqb d 127) refl in
+    let e : field.device-byte v ≡ d = field.device-same d (eqb d all-call) refl in
     let m : d % 128 ≡ d = omega arith in
     (v, ((rw e h, ap field.device-of e), rw (e, m)))
 

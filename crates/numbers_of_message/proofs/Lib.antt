@@ -1,6 +1,6 @@
 pub mod Laws
 pub mod ValuesBack
 pub mod RowsBack
-pub mod ToldOnly
+pub mod RepresentableOnly
 pub mod Settled
 pub mod Promises

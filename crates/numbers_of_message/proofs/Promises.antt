@@ -1,4 +1,4 @@
--- What the numbers promise: the numbers of a told message are read as that message.
+-- What the numbers promise: the numbers of a representable message are read as that message.
 -- Assumes nothing.
 use mathlib.Core.Path.{_≡_, refl, ap, _∙_}
 use mathlib.Core.List.{List, [], _∷_, _++_}
@@ -21,17 +21,17 @@ use Rattle.messages.specs.declared.«file_reference».FileReferenceMsg.the-vari
 use Rattle.messages.specs.declared.«system_exclusive».ManufacturerID.the-variants.{OneByte, Extended}
 use Rattle.messages.specs.declared.«system_exclusive».UniversalNonRealTimeMsg.the-variants as msg
 use Rattle.numbers_of_message.specs.Numbers.{Field, field-numbers, of-select, coded, numbers-of}
-use Rattle.numbers_of_message.specs.Told.{AllTold, MessageTold}
-use Rattle.numbers_of_message.specs.Promises.{NumbersBack, ToldExactly}
+use Rattle.numbers_of_message.specs.Representable.{AllRepresentable, MessageRepresentable}
+use Rattle.numbers_of_message.specs.Promises.{NumbersBack, RepresentableExactly}
 use Rattle.numbers_of_message.proofs.ValuesBack.{value-back}
-use Rattle.numbers_of_message.proofs.ToldOnly.{told-only}
+use Rattle.numbers_of_message.proofs.RepresentableOnly.{representable-only}
 use Rattle.numbers_of_message.proofs.RowsBack.{types, after, row-back, row-after, coded-back, one-back}
 
 -- ---- messages with a part that has forms
 
 module _ (d : DeviceID) where
   abbrev Back : UniversalNonRealTimeMsg → Type 0
-  Back m = MessageTold d m → message-of (numbers-of d m) ≡ Message d m
+  Back m = MessageRepresentable d m → message-of (numbers-of d m) ≡ Message d m
 
   reply-back : (id : ManufacturerID) (f k a b c e : ℕ) → Back (row.reply id f k a b c e)
   reply-back (OneByte n) f k a b c e h =
@@ -51,22 +51,22 @@ module _ (d : DeviceID) where
   keys-back NoBank p h = one-back d _ (row.keys .make) h refl refl
   keys-back (Bank b) p h = one-back d _ (row.bank-keys .make) h refl refl
 
-  -- the rows of a map after told fields, by their forms
-  module _ (l : List Field) (f : SelectMap → UniversalNonRealTimeMsg) (told : AllTold l)
+  -- the rows of a map after representable fields, by their forms
+  module _ (l : List Field) (f : SelectMap → UniversalNonRealTimeMsg) (representable : AllRepresentable l)
       (m0 : Fun (types l ++ row.list-types) UniversalNonRealTimeMsg) (e0 : after l row.list-types m0 ≡ row.list-map f)
       (m1 : Fun (types l ++ row.offset-types) UniversalNonRealTimeMsg) (e1 : after l row.offset-types m1 ≡ row.offset-map f)
       (m2 : Fun (types l ++ row.wav-types) UniversalNonRealTimeMsg) (e2 : after l row.wav-types m2 ≡ row.plain-map f)
       (m3 : Fun (types l ++ row.both-types) UniversalNonRealTimeMsg) (e3 : after l row.both-types m3 ≡ row.both-map f) where
     form : (ts : List NumberType) (m : Fun (types l ++ ts) UniversalNonRealTimeMsg) (n : Fun ts UniversalNonRealTimeMsg) (xs : List ℕ) → after l ts m ≡ n
         → read (types l ++ ts) m d (field-numbers l ++ xs) ≡ read ts n d xs
-    form ts m n xs e = row-after l ts m d xs told ∙ ap (λ (k : Fun ts UniversalNonRealTimeMsg). read ts k d xs) e
+    form ts m n xs e = row-after l ts m d xs representable ∙ ap (λ (k : Fun ts UniversalNonRealTimeMsg). read ts k d xs) e
 
     abbrev forms : List ℕ → Made
     forms xs =
         or-other (read row.list-types (row.list-map f) d xs)
         (or-other (read row.offset-types (row.offset-map f) d xs) (or-other (read row.wav-types (row.plain-map f) d xs) (read row.both-types (row.both-map f) d xs)))
 
-    forms-back : (s : SelectMap) → AllTold (of-select s) → forms (field-numbers (of-select s)) ≡ Message d (f s)
+    forms-back : (s : SelectMap) → AllRepresentable (of-select s) → forms (field-numbers (of-select s)) ≡ Message d (f s)
     forms-back select.SoundFile h = refl
     forms-back (select.SoundFileBankOffset o b) h =
         let s = of-select (select.SoundFileBankOffset o b) in
@@ -82,7 +82,7 @@ module _ (d : DeviceID) where
         record { types = types l ++ row.list-types; make = m0 } ∷ record { types = types l ++ row.offset-types; make = m1 }
         ∷ record { types = types l ++ row.wav-types; make = m2 } ∷ record { types = types l ++ row.both-types; make = m3 } ∷ []
 
-    map-back : (s : SelectMap) → AllTold (of-select s) → read-first form-rows d (field-numbers l ++ field-numbers (of-select s)) ≡ Message d (f s)
+    map-back : (s : SelectMap) → AllRepresentable (of-select s) → read-first form-rows d (field-numbers l ++ field-numbers (of-select s)) ≡ Message d (f s)
     map-back s h =
         let xs = field-numbers (of-select s) in
         (λ j. or-other (form row.list-types m0 (row.list-map f) xs e0 j)
@@ -139,5 +139,5 @@ numbers-back d msg.Cancel h = one-back d _ msg.Cancel h refl refl
 numbers-back d (msg.NAK n) h = one-back d _ (row.nak .make) h refl refl
 numbers-back d (msg.ACK n) h = one-back d _ (row.ack .make) h refl refl
 
-pub told-exactly : ToldExactly
-told-exactly t v = (value-back t v, told-only t v)
+pub representable-exactly : RepresentableExactly
+representable-exactly t v = (value-back t v, representable-only t v)

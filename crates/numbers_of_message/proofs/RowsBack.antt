@@ -1,4 +1,4 @@
--- The numbers of told fields are read by the row of their types as those fields.
+-- The numbers of representable fields are read by the row of their types as those fields.
 -- Assumes nothing.
 use mathlib.Core.Path.{_≡_, refl, ap, _∙_}
 use mathlib.Core.Bool.{Bool}
@@ -17,7 +17,7 @@ use Rattle.numbers_to_message.specs.Values.{Value, value, device-number-of}
 use Rattle.numbers_to_message.specs.Rows.{Fun, Row}
 use Rattle.numbers_to_message.specs.Table.{given, read, read-first, rows-of, message-of}
 use Rattle.numbers_of_message.specs.Numbers.{Field, field-numbers, coded, numbers-of}
-use Rattle.numbers_of_message.specs.Told.{Told, AllTold, MessageTold}
+use Rattle.numbers_of_message.specs.Representable.{Representable, AllRepresentable, MessageRepresentable}
 use Rattle.numbers_of_message.proofs.ValuesBack.{value-back}
 
 abbrev pub types : List Field → List NumberType
@@ -29,7 +29,7 @@ abbrev pub made : (l : List Field) → Fun (types l) UniversalNonRealTimeMsg →
 made [] m = m
 made (f ∷ l) m = made l (m (f .1))
 
-pub row-back : (l : List Field) (m : Fun (types l) UniversalNonRealTimeMsg) (d : DeviceID) → AllTold l
+pub row-back : (l : List Field) (m : Fun (types l) UniversalNonRealTimeMsg) (d : DeviceID) → AllRepresentable l
     → read (types l) m d (field-numbers l) ≡ Message d (made l m)
 row-back [] m d h = refl
 row-back (f ∷ l) m d h =
@@ -41,8 +41,8 @@ abbrev pub after : (l : List Field) (ts : List NumberType) → Fun (types l ++ t
 after [] ts m = m
 after (f ∷ l) ts m = after l ts (m (f .1))
 
--- the numbers after those of told fields are read by the types after theirs
-pub row-after : (l : List Field) (ts : List NumberType) (m : Fun (types l ++ ts) UniversalNonRealTimeMsg) (d : DeviceID) (xs : List ℕ) → AllTold l
+-- the numbers after those of representable fields are read by the types after theirs
+pub row-after : (l : List Field) (ts : List NumberType) (m : Fun (types l ++ ts) UniversalNonRealTimeMsg) (d : DeviceID) (xs : List ℕ) → AllRepresentable l
     → read (types l ++ ts) m d (field-numbers l ++ xs) ≡ read ts (after l ts m) d xs
 row-after [] ts m d xs h = refl
 row-after (f ∷ l) ts m d xs h =
@@ -50,7 +50,7 @@ row-after (f ∷ l) ts m d xs h =
     ∙ row-after l ts (m (f .1)) d xs (h .1)
 
 -- a message is read by the rows of its head code
-pub coded-back : (d : DeviceID) (m : UniversalNonRealTimeMsg) → Told type.Device d
+pub coded-back : (d : DeviceID) (m : UniversalNonRealTimeMsg) → Representable type.Device d
     → message-of (numbers-of d m) ≡ read-first (rows-of (coded m .0)) d (field-numbers (coded m .1))
 unfolding message-of numbers-of
 coded-back d m h =
@@ -59,7 +59,7 @@ coded-back d m h =
     ∙ ap (λ (o : Option DeviceID). given o (λ e. read-first (rows-of (coded m .0)) e l)) (value-back type.Device d h)
 
 -- the message of the only row of its head code
-pub one-back : (d : DeviceID) (m : UniversalNonRealTimeMsg) (f : Fun (types (coded m .1)) UniversalNonRealTimeMsg) → MessageTold d m
+pub one-back : (d : DeviceID) (m : UniversalNonRealTimeMsg) (f : Fun (types (coded m .1)) UniversalNonRealTimeMsg) → MessageRepresentable d m
     → rows-of (coded m .0) ≡ record { types = types (coded m .1); make = f } ∷ [] → made (coded m .1) f ≡ m
     → message-of (numbers-of d m) ≡ Message d m
 one-back d m f h r e =

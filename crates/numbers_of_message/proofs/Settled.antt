@@ -1,4 +1,4 @@
--- The fields of a settled message are told, so its numbers say it. Assumes nothing.
+-- The fields of a settled message are representable, so its numbers say it. Assumes nothing.
 use mathlib.Core.Path.{_≡_, refl}
 use mathlib.Core.Logic.{⊎-elim}
 use mathlib.Core.Bool.{Bool, true, false}
@@ -36,28 +36,28 @@ use Rattle.numbers_to_message.specs.Types.{DeviceID, TuningBank, LoopNumber, Fi
 use Rattle.numbers_to_message.specs.Values.{file-number-of, numbered}
 use Rattle.numbers_of_message.specs.Numbers.{of-sample, of-extended, of-identity, of-file, banked, of-midi, of-select, of-reference, coded}
 use Rattle.numbers_of_message.specs.Numbers as numbers
-use Rattle.numbers_of_message.specs.Told.{Within, Told, AllTold}
-use Rattle.numbers_of_message.specs.Promises.{SettledTold}
+use Rattle.numbers_of_message.specs.Representable.{Within, Representable, AllRepresentable}
+use Rattle.numbers_of_message.specs.Promises.{SettledRepresentable}
 
 -- ---- the kinds of field
 
-device-told : (d : DeviceID) → device .settled d → Told type.Device d
-device-told (Device n) h = omega arith
-device-told AllCall h = tt
+device-representable : (d : DeviceID) → device .settled d → Representable type.Device d
+device-representable (Device n) h = omega arith
+device-representable AllCall h = tt
 
-requested-told : (i : LoopNumber) → loop-requested .settled i → Told type.RequestedLoop i
-requested-told (Loop n) h = omega arith
-requested-told RequestAll h = tt
-requested-told DeleteAll h = let e : RequestAll ≡ DeleteAll = h .1 in let z : _≡_ {A = ℕ} 0 1 = cc in omega arith
+requested-representable : (i : LoopNumber) → loop-requested .settled i → Representable type.RequestedLoop i
+requested-representable (Loop n) h = omega arith
+requested-representable RequestAll h = tt
+requested-representable DeleteAll h = let e : RequestAll ≡ DeleteAll = h .1 in let z : _≡_ {A = ℕ} 0 1 = cc in omega arith
 
-transmitted-told : (i : LoopNumber) → loop-transmitted .settled i → Told type.TransmittedLoop i
-transmitted-told (Loop n) h = omega arith
-transmitted-told RequestAll h = let e : DeleteAll ≡ RequestAll = h .1 in let z : _≡_ {A = ℕ} 0 1 = cc in omega arith
-transmitted-told DeleteAll h = tt
+transmitted-representable : (i : LoopNumber) → loop-transmitted .settled i → Representable type.TransmittedLoop i
+transmitted-representable (Loop n) h = omega arith
+transmitted-representable RequestAll h = let e : DeleteAll ≡ RequestAll = h .1 in let z : _≡_ {A = ℕ} 0 1 = cc in omega arith
+transmitted-representable DeleteAll h = tt
 
-bank-told : (b : TuningBank) → bank-or-none .settled b → Told type.BankOrNone b
-bank-told NoBank h = tt
-bank-told (Bank n) h = omega arith
+bank-representable : (b : TuningBank) → bank-or-none .settled b → Representable type.BankOrNone b
+bank-representable NoBank h = tt
+bank-representable (Bank n) h = omega arith
 
 neg-below : (o v : ℕ) (t : Bool) (m : ℕ) → 1 ≤ o → less o v t ≡ negsuc m → m < o
 neg-below o v true m h e = let z : _≡_ {A = ℕ} 0 1 = cc in absurd (omega arith)
@@ -68,11 +68,11 @@ within : (o n t : ℕ) (z : ℤ) → 1 ≤ o → o ≤ n → t ≤ o + n → bia
 within o n t (pos m) p q r h e = omega arith
 within o n t (negsuc m) p q r h e = omega (arith, neg-below o (o - suc m) (leb o (o - suc m)) m p e)
 
-told-7 : (z : ℤ) → s7 .settled z → Told type.I8 z
-told-7 z h = within 64 (2 ^ 7) (128 ^ 1) z (omega arith) (omega arith) (omega arith) (h .0) (h .1)
+representable-7 : (z : ℤ) → s7 .settled z → Representable type.I8 z
+representable-7 z h = within 64 (2 ^ 7) (128 ^ 1) z (omega arith) (omega arith) (omega arith) (h .0) (h .1)
 
-told-14 : (z : ℤ) → s14 .settled z → Told type.I16 z
-told-14 z h = within 8192 (2 ^ 15) (128 ^ 2) z (omega arith) (omega arith) (omega arith) (h .0) (h .1)
+representable-14 : (z : ℤ) → s14 .settled z → Representable type.I16 z
+representable-14 z h = within 8192 (2 ^ 15) (128 ^ 2) z (omega arith) (omega arith) (omega arith) (h .0) (h .1)
 
 -- ---- a file type: one that spells no named type has another number than each of these
 
@@ -83,7 +83,7 @@ module _ (a b c d : ℕ) (low : (a < 128) × ((b < 128) × ((c < 128) × (d < 12
   same-refl : (x : Four) → same-four x x ≡ true
   same-refl x = rw (eq-eqb (x .0) _ refl, eq-eqb (x .1 .0) _ refl, eq-eqb (x .1 .1 .0) _ refl, eq-eqb (x .1 .1 .1) _ refl)
 
-  -- four letters below 256 are told by their number
+  -- four letters below 256 are representable by their number
   abbrev Letters : FileType → Type 0
   Letters t = (type-chars t .0 < 256) × ((type-chars t .1 .0 < 256) × ((type-chars t .1 .1 .0 < 256) × (type-chars t .1 .1 .1 < 256)))
 
@@ -120,124 +120,124 @@ module _ (a b c d : ℕ) (low : (a < 128) × ((b < 128) × ((c < 128) × (d < 12
       no-name BIN (MAC ∷ []) (omega arith) (λ (q : BIN ≡ Custom a b c d). let z : _≡_ {A = ℕ} 0 1 = cc in omega arith) e₄ λ e₅.
       no-name MAC ([]) (omega arith) (λ (q : MAC ≡ Custom a b c d). let z : _≡_ {A = ℕ} 0 1 = cc in omega arith) e₅ λ e₆. refl
 
-file-told : (t : FileType) → file-type .settled t → Told type.FileType t
-file-told MIDI h = tt
-file-told MIEX h = tt
-file-told ESEQ h = tt
-file-told TEXT h = tt
-file-told BIN h = tt
-file-told MAC h = tt
-file-told (Custom a b c d) h = (omega arith, unspelled a b c d (h .0) (h .1))
+file-representable : (t : FileType) → file-type .settled t → Representable type.FileType t
+file-representable MIDI h = tt
+file-representable MIEX h = tt
+file-representable ESEQ h = tt
+file-representable TEXT h = tt
+file-representable BIN h = tt
+file-representable MAC h = tt
+file-representable (Custom a b c d) h = (omega arith, unspelled a b c d (h .0) (h .1))
 
 -- ---- messages
 
-sample-told : (m : SampleDumpMsg) (text : List ℕ) → form (head-sample m) .settled (fields-sample m text) → AllTold (of-sample m .1)
-sample-told (sample.Header n f p l s e t) text h = (omega arith, (omega arith, (omega arith, (omega arith, (omega arith, (omega arith, (tt, tt)))))))
-sample-told (sample.Packet c) text h = (omega arith, tt)
-sample-told (sample.Request n) text h = (omega arith, tt)
-sample-told (sample.LoopPointTransmission n i t s e) text h = (omega arith, (transmitted-told i (h .0 .1 .0), (tt, (omega arith, (omega arith, tt)))))
-sample-told (sample.LoopPointsRequest n i) text h = (omega arith, (requested-told i (h .0 .1), tt))
+sample-representable : (m : SampleDumpMsg) (text : List ℕ) → form (head-sample m) .settled (fields-sample m text) → AllRepresentable (of-sample m .1)
+sample-representable (sample.Header n f p l s e t) text h = (omega arith, (omega arith, (omega arith, (omega arith, (omega arith, (omega arith, (tt, tt)))))))
+sample-representable (sample.Packet c) text h = (omega arith, tt)
+sample-representable (sample.Request n) text h = (omega arith, tt)
+sample-representable (sample.LoopPointTransmission n i t s e) text h = (omega arith, (transmitted-representable i (h .0 .1 .0), (tt, (omega arith, (omega arith, tt)))))
+sample-representable (sample.LoopPointsRequest n i) text h = (omega arith, (requested-representable i (h .0 .1), tt))
 
-extended-told : (m : ExtendedSampleDumpMsg) (text : List ℕ) → form (head-extended m) .settled (fields-extended m text) → AllTold (of-extended m .1)
-extended-told (extended.SampleName n) text h = (omega arith, tt)
-extended-told (extended.SampleNameRequest n) text h = (omega arith, tt)
-extended-told (extended.Header n f w r l s e t c) text h = (omega arith, (omega arith, (omega arith, (omega arith, (tt, (tt, (tt, (tt, (omega arith, tt)))))))))
-extended-told (extended.LoopPointTransmission n i t s e) text h = (omega arith, (transmitted-told i (h .0 .1 .0), (tt, (tt, (tt, tt)))))
-extended-told (extended.LoopPointsRequest n i) text h = (omega arith, (requested-told i (h .0 .1), tt))
+extended-representable : (m : ExtendedSampleDumpMsg) (text : List ℕ) → form (head-extended m) .settled (fields-extended m text) → AllRepresentable (of-extended m .1)
+extended-representable (extended.SampleName n) text h = (omega arith, tt)
+extended-representable (extended.SampleNameRequest n) text h = (omega arith, tt)
+extended-representable (extended.Header n f w r l s e t c) text h = (omega arith, (omega arith, (omega arith, (omega arith, (tt, (tt, (tt, (tt, (omega arith, tt)))))))))
+extended-representable (extended.LoopPointTransmission n i t s e) text h = (omega arith, (transmitted-representable i (h .0 .1 .0), (tt, (tt, (tt, tt)))))
+extended-representable (extended.LoopPointsRequest n i) text h = (omega arith, (requested-representable i (h .0 .1), tt))
 
-reply-told : (k : ManufacturerID) (x : AfterMaker) → identity-reply .settled (reply k x) → AllTold (of-identity (reply k x) .1)
-reply-told (OneByte m) x h = (tt, (omega arith, (tt, (omega arith, (omega arith, (omega arith, (omega arith, (omega arith, (omega arith, tt)))))))))
-reply-told (Extended m n) x h = (tt, (omega arith, (omega arith, (omega arith, (omega arith, (omega arith, (omega arith, (omega arith, (omega arith, tt)))))))))
+reply-representable : (k : ManufacturerID) (x : AfterMaker) → identity-reply .settled (reply k x) → AllRepresentable (of-identity (reply k x) .1)
+reply-representable (OneByte m) x h = (tt, (omega arith, (tt, (omega arith, (omega arith, (omega arith, (omega arith, (omega arith, (omega arith, tt)))))))))
+reply-representable (Extended m n) x h = (tt, (omega arith, (omega arith, (omega arith, (omega arith, (omega arith, (omega arith, (omega arith, (omega arith, tt)))))))))
 
-file-dump-told : (m : FileDumpMsg) (text : List ℕ) → form (head-file m) .settled (fields-file m text) → AllTold (of-file m .1)
-file-dump-told (file.Header s t l) text h = (device-told s (h .0), (file-told t (h .1 .0), (omega arith, tt)))
-file-dump-told (file.Packet c) text h = (omega arith, tt)
-file-dump-told (file.Request r t) text h = (device-told r (h .0), (file-told t (h .1 .0), tt))
+file-dump-representable : (m : FileDumpMsg) (text : List ℕ) → form (head-file m) .settled (fields-file m text) → AllRepresentable (of-file m .1)
+file-dump-representable (file.Header s t l) text h = (device-representable s (h .0), (file-representable t (h .1 .0), (omega arith, tt)))
+file-dump-representable (file.Packet c) text h = (omega arith, tt)
+file-dump-representable (file.Request r t) text h = (device-representable r (h .0), (file-representable t (h .1 .0), tt))
 
-request-told : (b : TuningBank) (p : ℕ) → form (head-request b) .settled (fields-request b p) → AllTold (banked 0x0800 0x0803 b p .1)
-request-told NoBank p h = (omega arith, tt)
-request-told (Bank b) p h = (omega arith, (omega arith, tt))
+request-representable : (b : TuningBank) (p : ℕ) → form (head-request b) .settled (fields-request b p) → AllRepresentable (banked 0x0800 0x0803 b p .1)
+request-representable NoBank p h = (omega arith, tt)
+request-representable (Bank b) p h = (omega arith, (omega arith, tt))
 
-keys-told : (b : TuningBank) (p : ℕ) (text entries : List ℕ) → form (head-keys b) .settled (fields-keys b p text entries) → AllTold (banked 0x0801 0x0804 b p .1)
-keys-told NoBank p text entries h = (omega arith, tt)
-keys-told (Bank b) p text entries h = (omega arith, (omega arith, tt))
+keys-representable : (b : TuningBank) (p : ℕ) (text entries : List ℕ) → form (head-keys b) .settled (fields-keys b p text entries) → AllRepresentable (banked 0x0801 0x0804 b p .1)
+keys-representable NoBank p text entries h = (omega arith, tt)
+keys-representable (Bank b) p text entries h = (omega arith, (omega arith, tt))
 
-scale-1-told : (s : Scale1Byte) → scale-1 .settled s → AllTold (numbers.scale-1 s)
-scale-1-told s h = (told-7 _ (h .0 .0), (told-7 _ (h .0 .1 .0), (told-7 _ (h .0 .1 .1 .0), (told-7 _ (h .0 .1 .1 .1 .0), (told-7 _ (h .0 .1 .1 .1 .1 .0), (told-7 _ (h .0 .1 .1 .1 .1 .1 .0), (told-7 _ (h .0 .1 .1 .1 .1 .1 .1 .0), (told-7 _ (h .0 .1 .1 .1 .1 .1 .1 .1 .0), (told-7 _ (h .0 .1 .1 .1 .1 .1 .1 .1 .1 .0), (told-7 _ (h .0 .1 .1 .1 .1 .1 .1 .1 .1 .1 .0), (told-7 _ (h .0 .1 .1 .1 .1 .1 .1 .1 .1 .1 .1 .0), (told-7 _ (h .0 .1 .1 .1 .1 .1 .1 .1 .1 .1 .1 .1), tt))))))))))))
+scale-1-representable : (s : Scale1Byte) → scale-1 .settled s → AllRepresentable (numbers.scale-1 s)
+scale-1-representable s h = (representable-7 _ (h .0 .0), (representable-7 _ (h .0 .1 .0), (representable-7 _ (h .0 .1 .1 .0), (representable-7 _ (h .0 .1 .1 .1 .0), (representable-7 _ (h .0 .1 .1 .1 .1 .0), (representable-7 _ (h .0 .1 .1 .1 .1 .1 .0), (representable-7 _ (h .0 .1 .1 .1 .1 .1 .1 .0), (representable-7 _ (h .0 .1 .1 .1 .1 .1 .1 .1 .0), (representable-7 _ (h .0 .1 .1 .1 .1 .1 .1 .1 .1 .0), (representable-7 _ (h .0 .1 .1 .1 .1 .1 .1 .1 .1 .1 .0), (representable-7 _ (h .0 .1 .1 .1 .1 .1 .1 .1 .1 .1 .1 .0), (representable-7 _ (h .0 .1 .1 .1 .1 .1 .1 .1 .1 .1 .1 .1), tt))))))))))))
 
-scale-2-told : (s : Scale2Byte) → scale-2 .settled s → AllTold (numbers.scale-2 s)
-scale-2-told s h = (told-14 _ (h .0 .0), (told-14 _ (h .0 .1 .0), (told-14 _ (h .0 .1 .1 .0), (told-14 _ (h .0 .1 .1 .1 .0), (told-14 _ (h .0 .1 .1 .1 .1 .0), (told-14 _ (h .0 .1 .1 .1 .1 .1 .0), (told-14 _ (h .0 .1 .1 .1 .1 .1 .1 .0), (told-14 _ (h .0 .1 .1 .1 .1 .1 .1 .1 .0), (told-14 _ (h .0 .1 .1 .1 .1 .1 .1 .1 .1 .0), (told-14 _ (h .0 .1 .1 .1 .1 .1 .1 .1 .1 .1 .0), (told-14 _ (h .0 .1 .1 .1 .1 .1 .1 .1 .1 .1 .1 .0), (told-14 _ (h .0 .1 .1 .1 .1 .1 .1 .1 .1 .1 .1 .1), tt))))))))))))
+scale-2-representable : (s : Scale2Byte) → scale-2 .settled s → AllRepresentable (numbers.scale-2 s)
+scale-2-representable s h = (representable-14 _ (h .0 .0), (representable-14 _ (h .0 .1 .0), (representable-14 _ (h .0 .1 .1 .0), (representable-14 _ (h .0 .1 .1 .1 .0), (representable-14 _ (h .0 .1 .1 .1 .1 .0), (representable-14 _ (h .0 .1 .1 .1 .1 .1 .0), (representable-14 _ (h .0 .1 .1 .1 .1 .1 .1 .0), (representable-14 _ (h .0 .1 .1 .1 .1 .1 .1 .1 .0), (representable-14 _ (h .0 .1 .1 .1 .1 .1 .1 .1 .1 .0), (representable-14 _ (h .0 .1 .1 .1 .1 .1 .1 .1 .1 .1 .0), (representable-14 _ (h .0 .1 .1 .1 .1 .1 .1 .1 .1 .1 .1 .0), (representable-14 _ (h .0 .1 .1 .1 .1 .1 .1 .1 .1 .1 .1 .1), tt))))))))))))
 
-wav-told : (m : WAVMap) → wav-map .settled m → AllTold (numbers.wav m)
-wav-told m h = (omega arith, (omega arith, (omega arith, (omega arith, (omega arith, (told-14 (m .fine) (h .0 .1 .1 .1 .1 .1 .0), (omega arith, tt)))))))
+wav-representable : (m : WAVMap) → wav-map .settled m → AllRepresentable (numbers.wav m)
+wav-representable m h = (omega arith, (omega arith, (omega arith, (omega arith, (omega arith, (representable-14 (m .fine) (h .0 .1 .1 .1 .1 .1 .0), (omega arith, tt)))))))
 
 -- ---- maps
 
-no-map-told : AllTold (of-select select.SoundFile)
-no-map-told = (tt, (tt, (tt, (tt, (tt, (tt, (tt, (tt, (tt, (tt, tt))))))))))
+no-map-representable : AllRepresentable (of-select select.SoundFile)
+no-map-representable = (tt, (tt, (tt, (tt, (tt, (tt, (tt, (tt, (tt, (tt, tt))))))))))
 
-offset-told : (o : ℕ) (d : Bool) → offset .settled (record { bank-offset = o; drum = d }) → AllTold (of-select (select.SoundFileBankOffset o d))
-offset-told o d h = (tt, (omega arith, (tt, (tt, (tt, (tt, (tt, (tt, (tt, (tt, tt))))))))))
+offset-representable : (o : ℕ) (d : Bool) → offset .settled (record { bank-offset = o; drum = d }) → AllRepresentable (of-select (select.SoundFileBankOffset o d))
+offset-representable o d h = (tt, (omega arith, (tt, (tt, (tt, (tt, (tt, (tt, (tt, (tt, tt))))))))))
 
-both-told : (m : WAVMap) (o : ℕ) (d : Bool) → wav-map .settled m → offset .settled (record { bank-offset = o; drum = d }) → AllTold (of-select (select.WAVBankOffset m o d))
-both-told m o d h g = (tt, (omega arith, (tt, wav-told m h)))
+both-representable : (m : WAVMap) (o : ℕ) (d : Bool) → wav-map .settled m → offset .settled (record { bank-offset = o; drum = d }) → AllRepresentable (of-select (select.WAVBankOffset m o d))
+both-representable m o d h g = (tt, (omega arith, (tt, wav-representable m h)))
 
-select-told : (c : ℕ) (m : SelectMap) (entries : List ℕ) → form (head-select m) .settled (fields-select c m entries) → AllTold ((type.U16, c) ∷ of-select m)
-select-told c select.SoundFile entries h = (omega arith, no-map-told)
-select-told c (select.SoundFileBankOffset o d) entries h = (omega arith, offset-told o d (h .1))
-select-told c (select.WAV m) entries h = (omega arith, (tt, (tt, (tt, wav-told m (h .1)))))
-select-told c (select.WAVBankOffset m o d) entries h = (omega arith, both-told m o d (h .1 .0) (h .1 .1))
+select-representable : (c : ℕ) (m : SelectMap) (entries : List ℕ) → form (head-select m) .settled (fields-select c m entries) → AllRepresentable ((type.U16, c) ∷ of-select m)
+select-representable c select.SoundFile entries h = (omega arith, no-map-representable)
+select-representable c (select.SoundFileBankOffset o d) entries h = (omega arith, offset-representable o d (h .1))
+select-representable c (select.WAV m) entries h = (omega arith, (tt, (tt, (tt, wav-representable m (h .1)))))
+select-representable c (select.WAVBankOffset m o d) entries h = (omega arith, both-representable m o d (h .1 .0) (h .1 .1))
 
 -- in an open with select the file type settles the kind
-open-told : (t : FileReferenceType) (m : SelectMap) (entries : List ℕ) → select-for t .settled (any-select m entries) → AllTold (of-select m)
-open-told kind.DLS select.SoundFile entries h = no-map-told
-open-told kind.DLS (select.SoundFileBankOffset o d) entries h = offset-told o d h
-open-told kind.DLS (select.WAV m) entries h = absurd h
-open-told kind.DLS (select.WAVBankOffset m o d) entries h = absurd h
-open-told kind.SF2 select.SoundFile entries h = no-map-told
-open-told kind.SF2 (select.SoundFileBankOffset o d) entries h = offset-told o d h
-open-told kind.SF2 (select.WAV m) entries h = absurd h
-open-told kind.SF2 (select.WAVBankOffset m o d) entries h = absurd h
-open-told kind.WAV select.SoundFile entries h = absurd h
-open-told kind.WAV (select.SoundFileBankOffset o d) entries h = absurd h
-open-told kind.WAV (select.WAV m) entries h = (tt, (tt, (tt, wav-told m h)))
-open-told kind.WAV (select.WAVBankOffset m o d) entries h = both-told m o d (h .0) (h .1)
+open-representable : (t : FileReferenceType) (m : SelectMap) (entries : List ℕ) → select-for t .settled (any-select m entries) → AllRepresentable (of-select m)
+open-representable kind.DLS select.SoundFile entries h = no-map-representable
+open-representable kind.DLS (select.SoundFileBankOffset o d) entries h = offset-representable o d h
+open-representable kind.DLS (select.WAV m) entries h = absurd h
+open-representable kind.DLS (select.WAVBankOffset m o d) entries h = absurd h
+open-representable kind.SF2 select.SoundFile entries h = no-map-representable
+open-representable kind.SF2 (select.SoundFileBankOffset o d) entries h = offset-representable o d h
+open-representable kind.SF2 (select.WAV m) entries h = absurd h
+open-representable kind.SF2 (select.WAVBankOffset m o d) entries h = absurd h
+open-representable kind.WAV select.SoundFile entries h = absurd h
+open-representable kind.WAV (select.SoundFileBankOffset o d) entries h = absurd h
+open-representable kind.WAV (select.WAV m) entries h = (tt, (tt, (tt, wav-representable m h)))
+open-representable kind.WAV (select.WAVBankOffset m o d) entries h = both-representable m o d (h .0) (h .1)
 
-reference-told : (m : FileReferenceMsg) (text entries : List ℕ) → form (head-reference m) .settled (fields-reference m text entries) → AllTold (of-reference m .1)
-reference-told (reference.Open c t) text entries h = (omega arith, (tt, tt))
-reference-told (reference.SelectContents c m) text entries h = select-told c m entries h
-reference-told (reference.OpenSelectContents c t m) text entries h = (omega arith, (tt, open-told t m entries (h .1 .1)))
-reference-told (reference.Close c) text entries h = (omega arith, tt)
+reference-representable : (m : FileReferenceMsg) (text entries : List ℕ) → form (head-reference m) .settled (fields-reference m text entries) → AllRepresentable (of-reference m .1)
+reference-representable (reference.Open c t) text entries h = (omega arith, (tt, tt))
+reference-representable (reference.SelectContents c m) text entries h = select-representable c m entries h
+reference-representable (reference.OpenSelectContents c t m) text entries h = (omega arith, (tt, open-representable t m entries (h .1 .1)))
+reference-representable (reference.Close c) text entries h = (omega arith, tt)
 
-midi-told : (g : GeneralMidi) → AllTold (of-midi g .1)
-midi-told GM1 = tt
-midi-told Off = tt
-midi-told GM2 = tt
+midi-representable : (g : GeneralMidi) → AllRepresentable (of-midi g .1)
+midi-representable GM1 = tt
+midi-representable Off = tt
+midi-representable GM2 = tt
 
 -- ---- all of them
 
-fields-told : (m : UniversalNonRealTimeMsg) (text entries : List ℕ) → form (headOf m) .settled (fieldsOf m text entries) → AllTold (coded m .1)
-fields-told (msg.SampleDump m) text entries h = sample-told m text h
-fields-told (msg.ExtendedSampleDump m) text entries h = extended-told m text h
-fields-told msg.IdentityRequest text entries h = tt
-fields-told (msg.IdentityReply r) text entries h = reply-told (r .id) (r .family, (r .«family_member», revision (r .«software_revision»))) h
-fields-told (msg.FileDump m) text entries h = file-dump-told m text h
-fields-told (msg.TuningBulkDumpRequest b p) text entries h = request-told b p h
-fields-told (msg.KeyBasedTuningDump k) text entries h = keys-told (k .«tuning_bank_num») (k .«tuning_program_num») text entries h
-fields-told (msg.ScaleTuningDump1Byte s) text entries h = (omega arith, (omega arith, scale-1-told (s .tuning) (h .0 .1 .1 .1)))
-fields-told (msg.ScaleTuningDump2Byte s) text entries h = (omega arith, (omega arith, scale-2-told (s .tuning) (h .0 .1 .1 .1)))
-fields-told (msg.TuningNoteChange c) text entries h = (bank-told (c .«tuning_bank_num») (h .0 .0), (omega arith, tt))
-fields-told (msg.ScaleTuning1Byte s) text entries h = (omega arith, scale-1-told (s .tuning) (h .0 .1))
-fields-told (msg.ScaleTuning2Byte s) text entries h = (omega arith, scale-2-told (s .tuning) (h .0 .1))
-fields-told (msg.GeneralMidi g) text entries h = midi-told g
-fields-told (msg.FileReference m) text entries h = reference-told m text entries h
-fields-told msg.EOF text entries h = tt
-fields-told msg.Wait text entries h = tt
-fields-told msg.Cancel text entries h = tt
-fields-told (msg.NAK n) text entries h = (omega arith, tt)
-fields-told (msg.ACK n) text entries h = (omega arith, tt)
+fields-representable : (m : UniversalNonRealTimeMsg) (text entries : List ℕ) → form (headOf m) .settled (fieldsOf m text entries) → AllRepresentable (coded m .1)
+fields-representable (msg.SampleDump m) text entries h = sample-representable m text h
+fields-representable (msg.ExtendedSampleDump m) text entries h = extended-representable m text h
+fields-representable msg.IdentityRequest text entries h = tt
+fields-representable (msg.IdentityReply r) text entries h = reply-representable (r .id) (r .family, (r .«family_member», revision (r .«software_revision»))) h
+fields-representable (msg.FileDump m) text entries h = file-dump-representable m text h
+fields-representable (msg.TuningBulkDumpRequest b p) text entries h = request-representable b p h
+fields-representable (msg.KeyBasedTuningDump k) text entries h = keys-representable (k .«tuning_bank_num») (k .«tuning_program_num») text entries h
+fields-representable (msg.ScaleTuningDump1Byte s) text entries h = (omega arith, (omega arith, scale-1-representable (s .tuning) (h .0 .1 .1 .1)))
+fields-representable (msg.ScaleTuningDump2Byte s) text entries h = (omega arith, (omega arith, scale-2-representable (s .tuning) (h .0 .1 .1 .1)))
+fields-representable (msg.TuningNoteChange c) text entries h = (bank-representable (c .«tuning_bank_num») (h .0 .0), (omega arith, tt))
+fields-representable (msg.ScaleTuning1Byte s) text entries h = (omega arith, scale-1-representable (s .tuning) (h .0 .1))
+fields-representable (msg.ScaleTuning2Byte s) text entries h = (omega arith, scale-2-representable (s .tuning) (h .0 .1))
+fields-representable (msg.GeneralMidi g) text entries h = midi-representable g
+fields-representable (msg.FileReference m) text entries h = reference-representable m text entries h
+fields-representable msg.EOF text entries h = tt
+fields-representable msg.Wait text entries h = tt
+fields-representable msg.Cancel text entries h = tt
+fields-representable (msg.NAK n) text entries h = (omega arith, tt)
+fields-representable (msg.ACK n) text entries h = (omega arith, tt)
 
-pub settled-told : SettledTold
-settled-told d m text entries s =
+pub settled-representable : SettledRepresentable
+settled-representable d m text entries s =
     let p = settled-parts (messageOf d m text entries) s in
-    (device-told d (p .0), fields-told m text entries (p .1))
+    (device-representable d (p .0), fields-representable m text entries (p .1))

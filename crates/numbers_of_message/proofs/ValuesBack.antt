@@ -1,4 +1,4 @@
--- The number of a told value says that value.
+-- The number of a representable value says that value.
 -- Assumes nothing.
 use mathlib.Core.Path.{_≡_, refl}
 use mathlib.Core.Bool.{true, false}
@@ -20,7 +20,7 @@ use Rattle.messages.specs.declared.«file_dump».FileType.{FileType}
 use Rattle.messages.specs.declared.«file_dump».FileType.the-variants.{MIDI, MIEX, ESEQ, TEXT, BIN, MAC, Custom}
 use Rattle.messages.specs.declared.«file_reference».FileReferenceType.the-variants as reference
 use Rattle.numbers_of_message.specs.Numbers.{number}
-use Rattle.numbers_of_message.specs.Told.{Within, Told}
+use Rattle.numbers_of_message.specs.Representable.{Within, Representable}
 
 signed-back : (n : ℕ) (z : ℤ) → n ≤ 2 ^ 63 → Within n z → signed n (signed-number-of z) ≡ some z
 signed-back n (pos k) r h = rw (lt-ltb k n h)
@@ -29,7 +29,7 @@ signed-back n (negsuc k) r h =
     let e : 2 ^ 64 - 1 - x ≡ k = omega arith in
     rw (le-ltb x n (omega arith), le-ltb x (2 ^ 64 - n) (omega arith), e)
 
-custom-back : (a b c d : ℕ) → Told type.FileType (Custom a b c d) → value type.FileType (file-number-of (Custom a b c d)) ≡ some (Custom a b c d)
+custom-back : (a b c d : ℕ) → Representable type.FileType (Custom a b c d) → value type.FileType (file-number-of (Custom a b c d)) ≡ some (Custom a b c d)
 custom-back a b c d h =
     let x = ((a * 256 + b) * 256 + c) * 256 + d in
     let ha = h .0 .0 in
@@ -42,7 +42,7 @@ custom-back a b c d h =
     let ed : x % 256 ≡ d = omega arith in
     rw (lt-ltb x (2 ^ 32) (omega arith), h .1, ea, eb, ec, ed)
 
-pub value-back : (t : NumberType) (v : Value t) → Told t v → value t (number t v) ≡ some v
+pub value-back : (t : NumberType) (v : Value t) → Representable t v → value t (number t v) ≡ some v
 value-back type.U8 n h = rw (lt-ltb n (2 ^ 8) h)
 value-back type.U16 n h = rw (lt-ltb n (2 ^ 16) h)
 value-back type.U32 n h = rw (lt-ltb n (2 ^ 32) h)

@@ -1,4 +1,4 @@
 pub mod Put
 pub mod Numbers
-pub mod Told
+pub mod Representable
 pub mod Promises

@@ -12,16 +12,16 @@ use Rattle.numbers_to_message.specs.Types.{DeviceID, UniversalNonRealTimeMsg}
 use Rattle.numbers_to_message.specs.Table.{message-of}
 use Rattle.numbers_to_message.specs.declared.Made.the-variants.{Message}
 use Rattle.numbers_of_message.specs.Numbers.{number, numbers-of}
-use Rattle.numbers_of_message.specs.Told.{Told, MessageTold}
+use Rattle.numbers_of_message.specs.Representable.{Representable, MessageRepresentable}
 
--- the numbers of a message, where its fields are told, are read as that message
+-- the numbers of a message, where its fields are representable, are read as that message
 abbrev pub NumbersBack : Type 0
-NumbersBack = (d : DeviceID) (m : UniversalNonRealTimeMsg) → MessageTold d m → message-of (numbers-of d m) ≡ Message d m
+NumbersBack = (d : DeviceID) (m : UniversalNonRealTimeMsg) → MessageRepresentable d m → message-of (numbers-of d m) ≡ Message d m
 
--- a field is told just where its number says it
-abbrev pub ToldExactly : Type 0
-ToldExactly = (t : NumberType) (v : Value t) → Told t v ↔ (value t (number t v) ≡ some v)
+-- a field is representable just where its number says it
+abbrev pub RepresentableExactly : Type 0
+RepresentableExactly = (t : NumberType) (v : Value t) → Representable t v ↔ (value t (number t v) ≡ some v)
 
--- the fields of a settled message are told
-abbrev pub SettledTold : Type 0
-SettledTold = (d : DeviceID) (m : UniversalNonRealTimeMsg) (text entries : List ℕ) → Settled (messageOf d m text entries) → MessageTold d m
+-- the fields of a settled message are representable
+abbrev pub SettledRepresentable : Type 0
+SettledRepresentable = (d : DeviceID) (m : UniversalNonRealTimeMsg) (text entries : List ℕ) → Settled (messageOf d m text entries) → MessageRepresentable d m

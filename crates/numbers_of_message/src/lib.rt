@@ -7,7 +7,7 @@ ghost use mathlib.Core.Path.{_≡_};
 ghost use lib.Dec.{leb};
 ghost use lib.ListN.{length};
 ghost use Rattle.util.specs.Pick.{pick};
-ghost use Rattle.util.specs.Splice.{front};
+ghost use Rattle.util.specs.Splice.{overwritten};
 ghost use Rattle.numbers_of_message.specs.Put.{Put};
 ghost use Rattle.numbers_of_message.specs.Numbers.{numbers, coded, numbers-of};
 
@@ -63,7 +63,7 @@ fn put_message(out: &mut [u64], d: u64, m: UniversalNonRealTimeMsg) -> usize
 
 // Puts the numbers of a message at the start of out where there is room for all; how many they are.
 pub fn to_numbers(device: DeviceID, m: UniversalNonRealTimeMsg, out: &mut [u64]) -> usize
-    ensures { λ r. ⌜ (r ≡ length (numbers-of device m)) × (now (out .exit) ≡ pick (leb (length (numbers-of device m)) (length (now (out .entry)))) (front (numbers-of device m) (now (out .entry))) (now (out .entry))) ⌝ }
+    ensures { λ r. ⌜ (r ≡ length (numbers-of device m)) × (now (out .exit) ≡ pick (leb (length (numbers-of device m)) (length (now (out .entry)))) (overwritten (numbers-of device m) (now (out .entry))) (now (out .entry))) ⌝ }
 {
     let d = values::device_number(device);
     put_message(out, d, m)

@@ -3,13 +3,13 @@ ghost use mathlib.Core.Path.{_≡_};
 ghost use mathlib.Core.List.{[], _∷_, _++_};
 ghost use Prim.Native.Nat.{_+_, _≤_};
 ghost use lib.ListN.{length};
-ghost use Rattle.util.specs.Splice.{front};
+ghost use Rattle.util.specs.Splice.{overwritten};
 ghost use Rattle.numbers_of_message.specs.Put.{Put};
 
 // Writes the numbers of another slice.
 fn copy(out: &mut [u64], s: &[u64])
     requires { ⌜ length (now s) ≤ length (now out) ⌝ }
-    ensures { λ _. ⌜ now (out .exit) ≡ front (now (s .entry)) (now (out .entry)) ⌝ }
+    ensures { λ _. ⌜ now (out .exit) ≡ overwritten (now (s .entry)) (now (out .entry)) ⌝ }
 {
     let mut i = 0;
     while i < s.len() {

@@ -17,10 +17,10 @@ use Rattle.read_places.specs.Heads.{head-at}
 use Rattle.read_places.proofs.Laws.Numbers.{value-get}
 use Rattle.read_system_exclusive.proofs.Laws.{number-reads}
 use Rattle.reader.specs.declared.lent.Reading.the-variants.{Frame}
-use Rattle.reader.specs.Reading.{part-and-places-of, data-after, entries-after, ReadMet}
+use Rattle.reader.specs.Reading.{text-and-places-of, data-after, entries-after, ReadMet}
 use Rattle.reader.proofs.Laws.Opening.{opened-at, opening-at}
 use Rattle.reader.proofs.Laws.Shape.{inside-is, read-of}
-use Rattle.util.specs.Splice.{front}
+use Rattle.util.specs.Splice.{overwritten}
 use Rattle.numbers_to_message.specs.Values.{device-number-of}
 use Rattle.numbers_of_message.specs.Numbers.{numbers-of}
 use Rattle.numbers_read.specs.Plain.{ReadAny, six}
@@ -68,23 +68,23 @@ module _ (k : Kind) (d n : ℕ) (p : d < 128) (q : n < 128) where
   nak-met dat es =
       let e = free-holds (messageOf (device-of d) (msg.NAK n) [] []) refl refl (length dat) (length es)
       ∙ ap (holding (length dat) (length es)) nak-read in
-      record { says = e; numbers-are = ap part-and-places-of e; data-is = ap (λ (a : Answer Message). data-after a dat) e; entries-are = ap (λ (a : Answer Message). entries-after a es) e }
+      record { says = e; numbers-are = ap text-and-places-of e; data-is = ap (λ (a : Answer Message). data-after a dat) e; entries-are = ap (λ (a : Answer Message). entries-after a es) e }
 
   ack-met : (dat es : List ℕ) → ReadMet (Frame (device-of d) (msg.ACK n) 0 0 0) (readOf k (six d 0x7F n)) (six d 0x7F n) dat dat es es
   ack-met dat es =
       let e = free-holds (messageOf (device-of d) (msg.ACK n) [] []) refl refl (length dat) (length es)
       ∙ ap (holding (length dat) (length es)) ack-read in
-      record { says = e; numbers-are = ap part-and-places-of e; data-is = ap (λ (a : Answer Message). data-after a dat) e; entries-are = ap (λ (a : Answer Message). entries-after a es) e }
+      record { says = e; numbers-are = ap text-and-places-of e; data-is = ap (λ (a : Answer Message). data-after a dat) e; entries-are = ap (λ (a : Answer Message). entries-after a es) e }
 
   -- with its numbers in the answer
-  pub nak-any : (a : ℕ) → a ≡ 0x7E → (answer answer′ : List ℕ) → answer′ ≡ front (3 ∷ 0 ∷ 0 ∷ 0 ∷ 0x7E00 ∷ device-number-of (device-of d) ∷ n ∷ []) answer
+  pub nak-any : (a : ℕ) → a ≡ 0x7E → (answer answer′ : List ℕ) → answer′ ≡ overwritten (3 ∷ 0 ∷ 0 ∷ 0 ∷ 0x7E00 ∷ device-number-of (device-of d) ∷ n ∷ []) answer
       → ReadAny (readOf k (six d a n)) (six d a n) answer answer′
   unfolding numbers-of
   nak-any a e answer answer′ x =
       subst (λ (b : ℕ). ReadAny (readOf k (six d b n)) (six d b n) answer answer′) (sym e)
       (record { reading = Frame (device-of d) (msg.NAK n) 0 0 0; met = nak-met; number-is = refl; answer-is = x })
 
-  pub ack-any : (a : ℕ) → a ≡ 0x7F → (answer answer′ : List ℕ) → answer′ ≡ front (3 ∷ 0 ∷ 0 ∷ 0 ∷ 0x7F00 ∷ device-number-of (device-of d) ∷ n ∷ []) answer
+  pub ack-any : (a : ℕ) → a ≡ 0x7F → (answer answer′ : List ℕ) → answer′ ≡ overwritten (3 ∷ 0 ∷ 0 ∷ 0 ∷ 0x7F00 ∷ device-number-of (device-of d) ∷ n ∷ []) answer
       → ReadAny (readOf k (six d a n)) (six d a n) answer answer′
   unfolding numbers-of
   ack-any a e answer answer′ x =

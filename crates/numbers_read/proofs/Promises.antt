@@ -1,6 +1,6 @@
 -- What reading into numbers promises. Assumes nothing.
 use mathlib.Core.Path.{sym, ap, _∙_}
-use Rattle.util.specs.Splice.{front}
+use Rattle.util.specs.Splice.{overwritten}
 use Rattle.reader.specs.declared.lent.Reading.{Reading}
 use Rattle.reader.specs.Reading.{reading-number}
 use Rattle.reader.proofs.Promises.{one-reading}
@@ -13,5 +13,5 @@ one-read-for k n m frame dat dat′ dat″ es es′ es″ answer answer′ answe
       w .number-is ∙ ap reading-number (o .0) ∙ sym (v .number-is),
       o .1,
       o .2,
-      w .answer-is ∙ ap (λ (r : Reading). front (reading-numbers r) answer) (o .0) ∙ sym (v .answer-is),
+      w .answer-is ∙ ap (λ (r : Reading). overwritten (reading-numbers r) answer) (o .0) ∙ sym (v .answer-is),
     )

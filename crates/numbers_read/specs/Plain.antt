@@ -3,7 +3,7 @@ use mathlib.Core.Path.{_≡_}
 use mathlib.Core.Bool.{Bool, true, false}
 use mathlib.Core.List.{List, [], _∷_}
 use Prim.Native.Nat.{ℕ}
-use Rattle.util.specs.Splice.{front}
+use Rattle.util.specs.Splice.{overwritten}
 use Rattle.messages.specs.Messages.{Message, Answer}
 use Rattle.reader.specs.declared.lent.Reading.{Reading}
 use Rattle.reader.specs.Reading.{reading-number, ReadMet}
@@ -14,11 +14,11 @@ pub record ReadAny (a : Answer Message) (frame answer answer′ : List ℕ) : Ty
   pub reading : Reading
   pub met : (dat es : List ℕ) → ReadMet reading a frame dat dat es es
   pub number-is : 0 ≡ reading-number reading
-  pub answer-is : answer′ ≡ front (reading-numbers reading) answer
+  pub answer-is : answer′ ≡ overwritten (reading-numbers reading) answer
 
 -- the numbers of a reading were put, or they were not and the answer is kept
 abbrev pub Numbered : Bool → Reading → List ℕ → List ℕ → Type 0
-Numbered true r answer answer′ = answer′ ≡ front (reading-numbers r) answer
+Numbered true r answer answer′ = answer′ ≡ overwritten (reading-numbers r) answer
 Numbered false r answer answer′ = answer′ ≡ answer
 
 -- it was read, or it was not and the answer is kept

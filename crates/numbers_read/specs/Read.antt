@@ -3,7 +3,7 @@ use mathlib.Core.Path.{_≡_}
 use mathlib.Core.List.{List, [], _∷_}
 use Prim.Native.Nat.{ℕ}
 use lib.ListN.{length}
-use Rattle.util.specs.Splice.{front}
+use Rattle.util.specs.Splice.{overwritten}
 use Rattle.messages.specs.declared.«file_reference».Kind.{Kind}
 use Rattle.messages.specs.Messages.{Message, Answer, readOf}
 use Rattle.reader.specs.declared.lent.Reading.{Reading}
@@ -21,7 +21,7 @@ pub record ReadTo (a : Answer Message) (n : ℕ) (frame dat dat′ es es′ answ
   pub reading : Reading
   pub met : ReadMet reading a frame dat dat′ es es′
   pub number-is : n ≡ reading-number reading
-  pub answer-is : answer′ ≡ front (reading-numbers reading) answer
+  pub answer-is : answer′ ≡ overwritten (reading-numbers reading) answer
 
 -- a reading for a kind
 abbrev pub ReadFor : Kind → ℕ → List ℕ → List ℕ → List ℕ → List ℕ → List ℕ → List ℕ → List ℕ → Type 0

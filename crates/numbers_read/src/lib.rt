@@ -12,11 +12,12 @@ use reader::lent::Reading;
 use reader::lent::text_start;
 use reader::opening::Opening;
 use util::groups::at;
+use util::limits::LARGEST_U7;
 ghost use mathlib.Core.Path.{_≡_};
 ghost use mathlib.Core.List.{[], _∷_};
 ghost use Prim.Native.Nat.{_≤_, _<_};
 ghost use lib.ListN.{length};
-ghost use Rattle.util.specs.Splice.{front};
+ghost use Rattle.util.specs.Splice.{overwritten};
 ghost use Rattle.messages.specs.declared.head.Head.the-variants as head;
 ghost use Rattle.reader.specs.declared.lent.Reading.the-variants as reading;
 ghost use Rattle.reader.specs.declared.opening.Opening.the-variants as opening;
@@ -38,7 +39,7 @@ fn put_reading(
     places: usize,
 )
     requires { ⌜ 20 ≤ length (now answer) ⌝ }
-    ensures { λ _. ⌜ now (answer .exit) ≡ front (reading-numbers (reading.Frame device m from len places)) (now (answer .entry)) ⌝ }
+    ensures { λ _. ⌜ now (answer .exit) ≡ overwritten (reading-numbers (reading.Frame device m from len places)) (now (answer .entry)) ⌝ }
 {
     let count = numbers_of_message::to_numbers(device, m, &mut answer[4..]);
     answer[0] = count as u64;
@@ -50,7 +51,7 @@ fn put_reading(
 // Puts the numbers of a handshake, its head code, device and packet, at the start of the answer.
 fn put_numbered(answer: &mut [u64], code: u64, device: u8, packet: u8)
     requires { ⌜ 20 ≤ length (now answer) ⌝ }
-    ensures { λ _. ⌜ now (answer .exit) ≡ front (3 ∷ 0 ∷ 0 ∷ 0 ∷ code ∷ device-number-of (device-of device) ∷ packet ∷ []) (now (answer .entry)) ⌝ }
+    ensures { λ _. ⌜ now (answer .exit) ≡ overwritten (3 ∷ 0 ∷ 0 ∷ 0 ∷ code ∷ device-number-of (device-of device) ∷ packet ∷ []) (now (answer .entry)) ⌝ }
 {
     let d = device_number(device_of(device));
     answer[0] = 3;
@@ -97,10 +98,10 @@ fn put_handshake(frame: &[u8], answer: &mut [u64]) -> bool
     }
     let device = frame[2];
     let packet = frame[4];
-    if 127 < device {
+    if LARGEST_U7 < device {
         return false;
     }
-    if 127 < packet {
+    if LARGEST_U7 < packet {
         return false;
     }
     put_packet(answer, device, frame[3], packet)
@@ -173,7 +174,7 @@ fn put_plain(frame: &[u8], h: Head, start: usize, end: usize, sum: bool, answer:
 }
 
 // Reads the fields under any head.
-fn read_part(
+fn read_fields(
     frame: &[u8],
     h: Head,
     start: usize,
@@ -186,7 +187,7 @@ fn read_part(
     requires { ⌜ (20 ≤ length (now answer)) × placed (opening.Fields h start end sum) (inner (now frame)) ⌝ }
     ensures { λ r. ⌜ ReadTo (opens-as (opening.Fields h start end sum) (inner (now (frame .entry)))) r (now (frame .entry)) (now («data» .entry)) (now («data» .exit)) (now (entries .entry)) (now (entries .exit)) (now (answer .entry)) (now (answer .exit)) ⌝ }
 {
-    match reader::lent::read_part(frame, h, start, end, sum, data, entries) {
+    match reader::lent::read_fields(frame, h, start, end, sum, data, entries) {
         Reading::Frame {
             device,
             m,
@@ -218,7 +219,7 @@ fn read_opened(
     if put_plain(frame, h, start, end, sum, answer) {
         return 0;
     }
-    read_part(frame, h, start, end, sum, data, entries, answer)
+    read_fields(frame, h, start, end, sum, data, entries, answer)
 }
 
 // Reads any frame for a kind of sound file.

@@ -9,7 +9,7 @@ ghost use mathlib.Core.Bool.{true, false};
 ghost use mathlib.Core.List.{[], _++_};
 ghost use Prim.Native.Nat.{_≤_};
 ghost use lib.ListN.{length};
-ghost use Rattle.util.specs.Splice.{front};
+ghost use Rattle.util.specs.Splice.{overwritten};
 ghost use Rattle.messages.specs.Messages.{writeOf};
 ghost use Rattle.write_fronts.specs.Fronts.{front-sample};
 ghost use Rattle.write_lists.specs.Parts.{part-sample};
@@ -30,7 +30,7 @@ fn put_header(
     kind: LoopType,
 )
     requires { ⌜ 21 ≤ length (now out) ⌝ }
-    ensures { λ _. ⌜ now (out .exit) ≡ front (wire false (front-sample d (SampleDumpMsg.Header sample format period len start end kind) ++ [])) (now (out .entry)) ⌝ }
+    ensures { λ _. ⌜ now (out .exit) ≡ overwritten (wire false (front-sample d (SampleDumpMsg.Header sample format period len start end kind) ++ [])) (now (out .entry)) ⌝ }
 {
     out[0] = 0xF0;
     let f = write_fronts::values::clamp(format as u64, 8, 28);
@@ -91,7 +91,7 @@ pub fn write_header(
 // Writes the frame of a sample dump packet.
 fn put_packet(out: &mut [u8], d: u64, count: u8, text: &[u8])
     requires { ⌜ 127 ≤ length (now out) ⌝ }
-    ensures { λ _. ⌜ now (out .exit) ≡ front (wire true (front-sample d (SampleDumpMsg.Packet count) ++ part-sample (SampleDumpMsg.Packet count) (now (text .entry)))) (now (out .entry)) ⌝ }
+    ensures { λ _. ⌜ now (out .exit) ≡ overwritten (wire true (front-sample d (SampleDumpMsg.Packet count) ++ part-sample (SampleDumpMsg.Packet count) (now (text .entry)))) (now (out .entry)) ⌝ }
 {
     out[0] = 0xF0;
     write_fronts::sample_dump::put_packet(&mut out[1..], d, count);

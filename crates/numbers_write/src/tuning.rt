@@ -8,7 +8,7 @@ ghost use mathlib.Core.Bool.{true};
 ghost use mathlib.Core.List.{_∷_, [], _++_};
 ghost use Prim.Native.Nat.{_≤_};
 ghost use lib.ListN.{length};
-ghost use Rattle.util.specs.Splice.{front};
+ghost use Rattle.util.specs.Splice.{overwritten};
 ghost use Rattle.messages.specs.format.Core.{written};
 ghost use Rattle.messages.specs.Fields.{name-of-16};
 ghost use Rattle.messages.specs.Structures.{scale-2};
@@ -48,7 +48,7 @@ pub fn write_scale_dump_2(
 // Writes the frame of a scale tuning dump of two bytes.
 fn put_scale_dump_2(out: &mut [u8], d: u64, bank: u8, program: u8, s: Scale2Byte, text: &[u8])
     requires { ⌜ 49 ≤ length (now out) ⌝ }
-    ensures { λ _. ⌜ now (out .exit) ≡ front (wire true (start-2 d 0x08 0x06 ((1, bank) ∷ (1, program) ∷ []) ++ (written name-of-16 (now (text .entry)) ++ written scale-2 s))) (now (out .entry)) ⌝ }
+    ensures { λ _. ⌜ now (out .exit) ≡ overwritten (wire true (start-2 d 0x08 0x06 ((1, bank) ∷ (1, program) ∷ []) ++ (written name-of-16 (now (text .entry)) ++ written scale-2 s))) (now (out .entry)) ⌝ }
 {
     out[0] = 0xF0;
     write_fronts::tuning::put_bank_program(&mut out[1..], d, 6, bank, program);

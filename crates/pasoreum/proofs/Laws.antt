@@ -8,7 +8,7 @@ use lib.Dec.{leb}
 use lib.ListN.{length, take, drop, replicate}
 use borrow.Author.Tests.{le-leb, le-ltb}
 use Rattle.util.specs.Pick.{pick}
-use Rattle.util.specs.Splice.{front}
+use Rattle.util.specs.Splice.{overwritten}
 use Rattle.messages.specs.declared.«system_exclusive».ManufacturerID.{ManufacturerID}
 use Rattle.messages.specs.declared.«system_exclusive».ManufacturerID.the-variants.{OneByte, Extended}
 use Rattle.messages.specs.declared.«system_exclusive».IdentityReply.{IdentityReply}
@@ -42,7 +42,7 @@ kept n dat es answer = record { number-is = refl; data-is = refl; entries-are = 
 
 -- the nine numbers of a reply behind head code and device
 pub nine : (k : ManufacturerID) (r : IdentityReply) (row : List ℕ)
-    → row ≡ pick (leb (length (0x0602 ∷ 0 ∷ field-numbers (maker k ++ after-maker r))) 11) (front (0x0602 ∷ 0 ∷ field-numbers (maker k ++ after-maker r)) (replicate 11 0)) (replicate 11 0)
+    → row ≡ pick (leb (length (0x0602 ∷ 0 ∷ field-numbers (maker k ++ after-maker r))) 11) (overwritten (0x0602 ∷ 0 ∷ field-numbers (maker k ++ after-maker r)) (replicate 11 0)) (replicate 11 0)
     → take 9 (drop 2 row) ≡ field-numbers (maker k ++ after-maker r)
 nine (OneByte m) r row e = ap (λ (l : List ℕ). take 9 (drop 2 l)) e
 nine (Extended m n) r row e = ap (λ (l : List ℕ). take 9 (drop 2 l)) e

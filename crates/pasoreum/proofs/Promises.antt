@@ -6,7 +6,7 @@ use Prim.Native.Nat.{ℕ, suc}
 use native.Mathlib.Omega.{arith}
 use lib.ListN.{length, take, drop}
 use lib.Seq.{take-at}
-use Rattle.util.specs.Splice.{front}
+use Rattle.util.specs.Splice.{overwritten}
 use Rattle.util.proofs.Laws.Refusals.{number-some}
 use Rattle.messages.specs.declared.«file_reference».Kind.{Kind}
 use Rattle.messages.specs.Messages.{Message, Answer, given, readOf}
@@ -22,36 +22,36 @@ use Rattle.reader.specs.Reading.{reading-number, ReadMet}
 use Rattle.reader.proofs.Promises.{gives-exactly, gives-part}
 use Rattle.numbers_of_message.specs.Numbers.{numbers-of}
 use Rattle.numbers_of_message.proofs.Promises.{numbers-back}
-use Rattle.numbers_of_message.proofs.Settled.{settled-told}
+use Rattle.numbers_of_message.proofs.Settled.{settled-representable}
 use Rattle.writer.specs.Write.{written-at, written-number, written-value, output-after}
 use Rattle.numbers_read.specs.Read.{reading-numbers}
 use Rattle.numbers_read.proofs.Promises.{one-read-for}
 use Rattle.numbers_write.specs.Write.{made-number, made-value, made-output}
 use Rattle.pasoreum.specs.declared.kinds.Named.the-variants as named
 use Rattle.pasoreum.specs.Read.{Kept}
-use Rattle.pasoreum.specs.Promises.{places-in, Says, text-said, message-said, NumbersRead, PartNamed, PartRead, WrittenAgain, OneRead}
+use Rattle.pasoreum.specs.Promises.{places-in, Says, text-said, message-said, NumbersRead, PartNamed, TextRead, WrittenAgain, OneRead}
 
 -- what an answer says of a message that was read
-abbrev Told : Kind → List ℕ → List ℕ → List ℕ → List ℕ → Type 0
-Told k frame dat es a = (s : Says frame dat es a) × ((readOf k frame ≡ given (message-said s)) × IsFrame (message-said s) frame)
+abbrev Representable : Kind → List ℕ → List ℕ → List ℕ → List ℕ → Type 0
+Representable k frame dat es a = (s : Says frame dat es a) × ((readOf k frame ≡ given (message-said s)) × IsFrame (message-said s) frame)
 
 module _ (k : Kind) (frame dat dat′ es es′ answer : List ℕ) where
-  told : (r : Reading) → ReadMet r (readOf k frame) frame dat dat′ es es′ → 0 ≡ reading-number r → Told k frame dat′ es′ (front (reading-numbers r) answer)
-  told (Refused r) h e = absurd (omega (arith, number-some r))
-  told (Frame d m from len places) h e =
+  representable : (r : Reading) → ReadMet r (readOf k frame) frame dat dat′ es es′ → 0 ≡ reading-number r → Representable k frame dat′ es′ (overwritten (reading-numbers r) answer)
+  representable (Refused r) h e = absurd (omega (arith, number-some r))
+  representable (Frame d m from len places) h e =
       let x = messageOf d m (text-from m (take len (drop from frame)) (take places dat′)) (take places es′) in
       let g = gives-exactly k (Frame d m from len places) frame dat dat′ es es′ x h .0 refl in
       let n = take-at (numbers-of d m) (drop (suc (suc (suc (suc (length (numbers-of d m)))))) answer) (length (numbers-of d m)) refl in (
-        record { device = d; m = m; numbers-say = ap message-of n ∙ numbers-back d m (settled-told d m _ _ (g .0 .settled)) },
+        record { device = d; m = m; numbers-say = ap message-of n ∙ numbers-back d m (settled-representable d m _ _ (g .0 .settled)) },
         (read-exactly k frame x .1 (g .0, g .1), g .1),
       )
 
 pub numbers-read : NumbersRead
 numbers-read k frame dat dat′ es es′ answer answer′ f =
-    subst (Told k frame dat′ es′) (sym (f .answer-is)) (told k frame dat dat′ es es′ answer (f .reading) (f .met) (f .number-is))
+    subst (Representable k frame dat′ es′) (sym (f .answer-is)) (representable k frame dat dat′ es es′ answer (f .reading) (f .met) (f .number-is))
 
 module _ (k : Kind) (frame dat dat′ es es′ answer : List ℕ) (m : Message) (g : readOf k frame ≡ given m) where
-  part-named : (r : Reading) → ReadMet r (readOf k frame) frame dat dat′ es es′ → 0 ≡ reading-number r → PartNamed frame (front (reading-numbers r) answer) m
+  part-named : (r : Reading) → ReadMet r (readOf k frame) frame dat dat′ es es′ → 0 ≡ reading-number r → PartNamed frame (overwritten (reading-numbers r) answer) m
   part-named (Refused r) h e = absurd (omega (arith, number-some r))
   part-named (Frame d c from len n) h e =
       let x = messageOf d c (text-from c (take len (drop from frame)) (take n dat′)) (take n es′) in
@@ -61,8 +61,8 @@ module _ (k : Kind) (frame dat dat′ es es′ answer : List ℕ) (m : Message) 
       let q = p .0 in
       record { start-is = cc; length-is = cc; places-are = cc; stands = p .1 }
 
-pub part-read : PartRead
-part-read k frame dat dat′ es es′ answer answer′ m f g =
+pub text-read : TextRead
+text-read k frame dat dat′ es es′ answer answer′ m f g =
     subst (λ (a : List ℕ). PartNamed frame a m) (sym (f .answer-is)) (part-named k frame dat dat′ es es′ answer m g (f .reading) (f .met) (f .number-is))
 
 pub written-again : WrittenAgain

@@ -4,7 +4,7 @@ use Prim.Native.Nat.{ℕ}
 use lib.Dec.{ltb}
 use lib.ListN.{length}
 use Rattle.util.specs.Pick.{pick}
-use Rattle.util.specs.Splice.{front}
+use Rattle.util.specs.Splice.{overwritten}
 use Rattle.messages.specs.declared.«system_exclusive».IdentityReading.{IdentityReading}
 use Rattle.messages.specs.declared.«system_exclusive».IdentityReading.the-variants.{Reply, Refused}
 use Rattle.messages.specs.Identity.{identityOf}
@@ -22,4 +22,4 @@ identity-number bytes answer = pick (ltb (length answer) 9) 66 (reading.identity
 
 -- the answer afterwards
 abbrev pub identity-answer : List ℕ → List ℕ → List ℕ
-identity-answer bytes answer = pick (ltb (length answer) 9) answer (front (reply-numbers (identityOf bytes)) answer)
+identity-answer bytes answer = pick (ltb (length answer) 9) answer (overwritten (reply-numbers (identityOf bytes)) answer)

@@ -24,8 +24,8 @@ abbrev pub numbers-in : List ℕ → List ℕ
 numbers-in a = take (getD a 0 0) (drop 4 a)
 
 -- the part of the frame that an answer names
-abbrev pub part-in : List ℕ → List ℕ → List ℕ
-part-in frame a = take (getD a 2 0) (drop (getD a 1 0) frame)
+abbrev pub named-text : List ℕ → List ℕ → List ℕ
+named-text frame a = take (getD a 2 0) (drop (getD a 1 0) frame)
 
 -- the lent places that an answer names
 abbrev pub places-in : List ℕ → List ℕ → List ℕ
@@ -38,7 +38,7 @@ pub record Says (frame dat es a : List ℕ) : Type 0 where
   pub numbers-say : message-of (numbers-in a) ≡ made.Message device m
 
 abbrev pub text-said : {frame dat es a : List ℕ} → Says frame dat es a → List ℕ
-text-said {frame} {dat} {es} {a} s = text-from (s .m) (part-in frame a) (places-in dat a)
+text-said {frame} {dat} {es} {a} s = text-from (s .m) (named-text frame a) (places-in dat a)
 
 abbrev pub message-said : {frame dat es a : List ℕ} → Says frame dat es a → Message
 message-said {frame} {dat} {es} {a} s = messageOf (s .device) (s .m) (text-said s) (places-in es a)
@@ -57,8 +57,8 @@ pub record PartNamed (frame answer : List ℕ) (m : Message) : Type 0 where
   pub places-are : getD answer 3 0 ≡ places m
   pub stands : TextStands m frame
 
-abbrev pub PartRead : Type 0
-PartRead =
+abbrev pub TextRead : Type 0
+TextRead =
     (k : Kind) (frame dat dat′ es es′ answer answer′ : List ℕ) (m : Message) → ReadFor k 0 frame dat dat′ es es′ answer answer′
     → readOf k frame ≡ given m → PartNamed frame answer′ m
 

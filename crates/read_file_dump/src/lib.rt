@@ -13,7 +13,7 @@ ghost use mathlib.Core.Path.{_≡_};
 ghost use Prim.Native.Nat.{_≤_};
 ghost use lib.ListN.{length};
 ghost use Rattle.util.specs.Groups.{Seven};
-ghost use Rattle.util.specs.Splice.{front};
+ghost use Rattle.util.specs.Splice.{overwritten};
 ghost use Rattle.messages.specs.declared.head.Head.the-variants as head;
 ghost use Rattle.messages.specs.declared.«file_dump».FileDumpMsg.the-variants as file;
 ghost use Rattle.messages.specs.declared.«system_exclusive».UniversalNonRealTimeMsg.the-variants as msg;
@@ -128,7 +128,7 @@ fn packet_of(running_count: u8, n: usize) -> Found
 // Writes the data of the packed bytes from a place on.
 pub fn put_data(out: &mut [u8], f: &[u8], at: usize)
     requires { ⌜ Seven (now f) × (at ≤ length (now f)) × (length (data-at (now f) at) ≤ length (now out)) ⌝ }
-    ensures { λ _. ⌜ now (out .exit) ≡ front (data-at (now (f .entry)) at) (now (out .entry)) ⌝ }
+    ensures { λ _. ⌜ now (out .exit) ≡ overwritten (data-at (now (f .entry)) at) (now (out .entry)) ⌝ }
 {
     let mut o = 0;
     let mut i = at;

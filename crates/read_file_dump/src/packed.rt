@@ -3,7 +3,7 @@ ghost use mathlib.Core.Path.{_≡_};
 ghost use Prim.Native.Nat.{_+_, _-_, _/_, _%_, _^_, _≤_, _<_};
 ghost use lib.ListN.{length};
 ghost use Rattle.util.specs.Groups.{Seven};
-ghost use Rattle.util.specs.Splice.{front};
+ghost use Rattle.util.specs.Splice.{overwritten};
 ghost use Rattle.read_places.specs.Places.{next-k, next-tops, data-byte, data-from, none-over};
 
 // How many data bytes n packed bytes hold.
@@ -53,7 +53,7 @@ pub fn is_none_over(s: &[u8]) -> bool
 // Writes the seven data bytes of a whole group.
 pub fn put_group(out: &mut [u8], g: &[u8])
     requires { ⌜ Seven (now g) × (length (now g) ≡ 8) × (7 ≤ length (now out)) ⌝ }
-    ensures { λ _. ⌜ now (out .exit) ≡ front (data-from 0 0 (now (g .entry))) (now (out .entry)) ⌝ }
+    ensures { λ _. ⌜ now (out .exit) ≡ overwritten (data-from 0 0 (now (g .entry))) (now (out .entry)) ⌝ }
 {
     let t = g[0];
     out[0] = t / 64 * 128 + g[1];
@@ -83,7 +83,7 @@ fn next_tops(k: usize, t: u8, b: u8) -> u8
 // Writes the data byte that b gives, and tells how many that are; a byte of top bits gives none.
 fn put_data_byte(out: &mut [u8], k: usize, t: u8, b: u8) -> usize
     requires { ⌜ (k ≤ 7) × (t < 2 ^ k) × (b < 128) × (length (data-byte k t b) ≤ length (now out)) ⌝ }
-    ensures { λ r. ⌜ (r ≡ length (data-byte k t b)) × (now (out .exit) ≡ front (data-byte k t b) (now (out .entry))) ⌝ }
+    ensures { λ r. ⌜ (r ≡ length (data-byte k t b)) × (now (out .exit) ≡ overwritten (data-byte k t b) (now (out .entry))) ⌝ }
 {
     if k == 0 {
         0
@@ -97,7 +97,7 @@ fn put_data_byte(out: &mut [u8], k: usize, t: u8, b: u8) -> usize
 // Writes the data of packed bytes, byte by byte.
 pub fn put_rest(out: &mut [u8], s: &[u8])
     requires { ⌜ Seven (now s) × (length (data-from 0 0 (now s)) ≤ length (now out)) ⌝ }
-    ensures { λ _. ⌜ now (out .exit) ≡ front (data-from 0 0 (now (s .entry))) (now (out .entry)) ⌝ }
+    ensures { λ _. ⌜ now (out .exit) ≡ overwritten (data-from 0 0 (now (s .entry))) (now (out .entry)) ⌝ }
 {
     let mut at = 0;
     let mut k = 0;

@@ -11,8 +11,9 @@ use util::limits::MOST_URL;
 ghost use mathlib.Core.Path.{_≡_};
 ghost use Prim.Native.Nat.{_+_, _≤_};
 ghost use lib.ListN.{length, drop};
+ghost use Rattle.util.specs.Limits.{most-places};
 ghost use Rattle.util.specs.Groups.{Seven};
-ghost use Rattle.util.specs.Splice.{front};
+ghost use Rattle.util.specs.Splice.{overwritten};
 ghost use Rattle.messages.specs.declared.head.Head.the-variants as head;
 ghost use Rattle.messages.specs.format.Core.{got};
 ghost use Rattle.messages.specs.format.Tags.{look};
@@ -219,8 +220,8 @@ fn map_for(f: &[u8], t: FileReferenceType, i: usize) -> Picked
 
 // Writes the n bank maps of the fields f from at on, a place each.
 pub fn put_maps(out: &mut [u64], f: &[u8], at: usize, n: usize)
-    requires { ⌜ (n ≤ length (now out)) × (n ≤ 128) × (at ≤ length (now f)) ⌝ }
-    ensures { λ _. ⌜ now (out .exit) ≡ front (map-entries (now (f .entry)) at n) (now (out .entry)) ⌝ }
+    requires { ⌜ (n ≤ length (now out)) × (n ≤ most-places) × (at ≤ length (now f)) ⌝ }
+    ensures { λ _. ⌜ now (out .exit) ≡ overwritten (map-entries (now (f .entry)) at n) (now (out .entry)) ⌝ }
 {
     maps::put_first(out, &f[at..], n)
 }

@@ -10,8 +10,9 @@ use util::signed::u14_to_i;
 ghost use mathlib.Core.Path.{_≡_};
 ghost use Prim.Native.Nat.{_+_, _*_, _≤_};
 ghost use lib.ListN.{length, drop};
+ghost use Rattle.util.specs.Limits.{most-places};
 ghost use Rattle.util.specs.Groups.{Seven};
-ghost use Rattle.util.specs.Splice.{front};
+ghost use Rattle.util.specs.Splice.{overwritten};
 ghost use Rattle.messages.specs.Fields.{bits-of};
 ghost use Rattle.messages.specs.Maps.{offset, bank-only, wav-only};
 ghost use Rattle.read_places.specs.Places.{map-at, map-entries};
@@ -73,8 +74,8 @@ fn map_at(f: &[u8], i: usize) -> SoundFileMap
 
 // Writes the n maps that f starts with, a place each.
 pub fn put_first(out: &mut [u64], f: &[u8], n: usize)
-    requires { ⌜ (n ≤ length (now out)) × (n ≤ 128) ⌝ }
-    ensures { λ _. ⌜ now (out .exit) ≡ front (map-entries (now (f .entry)) 0 n) (now (out .entry)) ⌝ }
+    requires { ⌜ (n ≤ length (now out)) × (n ≤ most-places) ⌝ }
+    ensures { λ _. ⌜ now (out .exit) ≡ overwritten (map-entries (now (f .entry)) 0 n) (now (out .entry)) ⌝ }
 {
     let mut j = 0;
     while j < n {

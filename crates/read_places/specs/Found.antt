@@ -6,6 +6,7 @@ use mathlib.Core.List.{List, []}
 use Prim.Native.Nat.{ℕ, _+_, _≤_}
 use lib.Dec.{eqb}
 use lib.ListN.{length, take, drop}
+use Rattle.util.specs.Limits.{most-places}
 use Rattle.util.specs.Pick.{pick}
 use Rattle.util.specs.declared.refusal.Refusal.the-variants as R
 use Rattle.messages.specs.declared.head.Head.{Head}
@@ -123,7 +124,7 @@ found-of d Nothing f = refused R.Field
 -- the text and the list lie in the fields, and the list takes n places, at most 128
 abbrev pub within : Found → List ℕ → Type 0
 within (Is m from len i n) f =
-    (from + len ≤ length f) × (i ≤ length f) × (n ≤ 128) × (length (data-of m f i) + length (entries-of m f i n) ≡ n)
+    (from + len ≤ length f) × (i ≤ length f) × (n ≤ most-places) × (length (data-of m f i) + length (entries-of m f i n) ≡ n)
 within Nothing f = Unit {0}
 
 -- the text starts where the layout has it; where the layout has none, at 0 and with no bytes

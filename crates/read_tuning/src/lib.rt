@@ -15,11 +15,13 @@ use read_places::Found;
 use util::channels;
 use util::channels::ChannelSet;
 use util::groups;
+use util::limits::KEYS;
 ghost use mathlib.Core.Path.{_≡_};
 ghost use Prim.Native.Nat.{_≤_};
 ghost use lib.ListN.{length};
+ghost use Rattle.util.specs.Limits.{most-places};
 ghost use Rattle.util.specs.Groups.{Seven};
-ghost use Rattle.util.specs.Splice.{front};
+ghost use Rattle.util.specs.Splice.{overwritten};
 ghost use Rattle.util.specs.Channels.{channels-of};
 ghost use Rattle.messages.specs.declared.head.Head.the-variants as head;
 ghost use Rattle.read_places.specs.Places.{value-at, tuning-entries, change-entries};
@@ -82,7 +84,7 @@ pub fn key_dump(f: &[u8]) -> Found
         from: 1,
         len: 16,
         at: 17,
-        count: 128,
+        count: KEYS,
     }
 }
 
@@ -110,7 +112,7 @@ pub fn bank_key_dump(f: &[u8]) -> Found
         from: 2,
         len: 16,
         at: 18,
-        count: 128,
+        count: KEYS,
     }
 }
 
@@ -241,8 +243,8 @@ pub fn scale_2(f: &[u8]) -> Found
 
 // Puts n tunings from a place of the fields on into the front of lent places.
 pub fn put_tunings(out: &mut [u64], f: &[u8], at: usize, n: usize)
-    requires { ⌜ (n ≤ length (now out)) × (n ≤ 128) × (at ≤ length (now f)) ⌝ }
-    ensures { λ _. ⌜ now (out .exit) ≡ front (tuning-entries (now (f .entry)) at n) (now (out .entry)) ⌝ }
+    requires { ⌜ (n ≤ length (now out)) × (n ≤ most-places) × (at ≤ length (now f)) ⌝ }
+    ensures { λ _. ⌜ now (out .exit) ≡ overwritten (tuning-entries (now (f .entry)) at n) (now (out .entry)) ⌝ }
 {
     let mut i = 0;
     while i < n {
@@ -253,8 +255,8 @@ pub fn put_tunings(out: &mut [u64], f: &[u8], at: usize, n: usize)
 
 // Puts n note changes from a place of the fields on into the front of lent places.
 pub fn put_changes(out: &mut [u64], f: &[u8], at: usize, n: usize)
-    requires { ⌜ (n ≤ length (now out)) × (n ≤ 128) × (at ≤ length (now f)) ⌝ }
-    ensures { λ _. ⌜ now (out .exit) ≡ front (change-entries (now (f .entry)) at n) (now (out .entry)) ⌝ }
+    requires { ⌜ (n ≤ length (now out)) × (n ≤ most-places) × (at ≤ length (now f)) ⌝ }
+    ensures { λ _. ⌜ now (out .exit) ≡ overwritten (change-entries (now (f .entry)) at n) (now (out .entry)) ⌝ }
 {
     let mut i = 0;
     while i < n {

@@ -4,7 +4,7 @@ use mathlib.Core.Bool.{Bool, true, false}
 use mathlib.Core.List.{List, [], _∷_}
 use Prim.Native.Nat.{ℕ}
 use lib.ListN.{length, take, drop}
-use Rattle.util.specs.Splice.{front}
+use Rattle.util.specs.Splice.{overwritten}
 use Rattle.util.specs.Refusals.{number}
 use Rattle.messages.specs.declared.«system_exclusive».UniversalNonRealTimeMsg.{UniversalNonRealTimeMsg}
 use Rattle.messages.specs.declared.«system_exclusive».UniversalNonRealTimeMsg.the-variants as msg
@@ -27,14 +27,14 @@ said (reading.Frame d m from len n) frame dat es = given (messageOf d m (text-fr
 said (reading.Refused r) frame dat es = refused r
 
 -- the numbers of an answer beside the message: where its name, URL or sample bytes begin in the frame, how many they are, the lent places it takes
-abbrev pub part-and-places : Reading → List ℕ
-part-and-places (reading.Frame d m from len n) = from ∷ len ∷ n ∷ []
-part-and-places (reading.Refused r) = []
+abbrev pub text-and-places : Reading → List ℕ
+text-and-places (reading.Frame d m from len n) = from ∷ len ∷ n ∷ []
+text-and-places (reading.Refused r) = []
 
 -- those of the message that is given: start 0 and length 0 where it has no text, places 0 where it has no list
-abbrev pub part-and-places-of : Answer Message → List ℕ
-part-and-places-of (given m) = text-start m ∷ length (text m) ∷ places m ∷ []
-part-and-places-of (refused r) = []
+abbrev pub text-and-places-of : Answer Message → List ℕ
+text-and-places-of (given m) = text-start m ∷ length (text m) ∷ places m ∷ []
+text-and-places-of (refused r) = []
 
 -- ---- with no lent space
 
@@ -50,24 +50,24 @@ entries-given (given m) = entries m
 -- examining a frame whose answer is a: what a reading answers that is lent the places which the message takes
 pub record Tells (r : Reading) (a : Answer Message) (frame : List ℕ) : Type 0 where
   pub says : said r frame (data-given a) (entries-given a) ≡ a
-  pub numbers-are : part-and-places r ≡ part-and-places-of a
+  pub numbers-are : text-and-places r ≡ text-and-places-of a
 
 -- ---- with lent space
 
 -- "file data [..] go to lent space, one place each", from its start; the rest keeps its values, and all of it under a refusal
 abbrev pub data-after : Answer Message → List ℕ → List ℕ
 data-after (refused r) l = l
-data-after (given m) l = front (file-data m) l
+data-after (given m) l = overwritten (file-data m) l
 
 -- the same of "entries (tunings, note changes, bank map records)"
 abbrev pub entries-after : Answer Message → List ℕ → List ℕ
 entries-after (refused r) l = l
-entries-after (given m) l = front (entries m) l
+entries-after (given m) l = overwritten (entries m) l
 
 -- reading a frame whose answer without lent space is a: the answer with lent space, and what lent space holds after it
 pub record ReadMet (r : Reading) (a : Answer Message) (frame dat dat′ es es′ : List ℕ) : Type 0 where
   pub says : said r frame dat′ es′ ≡ holding (length dat) (length es) a
-  pub numbers-are : part-and-places r ≡ part-and-places-of (holding (length dat) (length es) a)
+  pub numbers-are : text-and-places r ≡ text-and-places-of (holding (length dat) (length es) a)
   pub data-is : dat′ ≡ data-after (holding (length dat) (length es) a) dat
   pub entries-are : es′ ≡ entries-after (holding (length dat) (length es) a) es
 

@@ -49,7 +49,7 @@ pub fn opening_in(frame: &[u8], kind: Kind) -> Opening
 }
 
 // What the fields of a frame say under a head, with whether its checksum is right.
-fn examine_part(frame: &[u8], h: Head, start: usize, end: usize, sum: bool) -> Reading
+fn examine_fields(frame: &[u8], h: Head, start: usize, end: usize, sum: bool) -> Reading
     requires { ⌜ placed (opening.Fields h start end sum) (inner (now frame)) ⌝ }
     ensures { λ r. ⌜ Tells r (opens-as (opening.Fields h start end sum) (inner (now (frame .entry)))) (now (frame .entry)) ⌝ }
 {
@@ -85,7 +85,7 @@ pub fn examine(frame: &[u8], kind: Kind) -> Reading
     ensures { λ r. ⌜ Tells r (readOf kind (now (frame .entry))) (now (frame .entry)) ⌝ }
 {
     match opening_in(frame, kind) {
-        Opening::Fields { h, start, end, sum } => examine_part(frame, h, start, end, sum),
+        Opening::Fields { h, start, end, sum } => examine_fields(frame, h, start, end, sum),
         Opening::Refused(n) => Reading::Refused(n),
     }
 }
@@ -114,7 +114,7 @@ pub fn read(frame: &[u8], kind: Kind, data: &mut [u8], entries: &mut [u64]) -> R
     ensures { λ r. ⌜ ReadMet r (readOf kind (now (frame .entry))) (now (frame .entry)) (now («data» .entry)) (now («data» .exit)) (now (entries .entry)) (now (entries .exit)) ⌝ }
 {
     match opening_in(frame, kind) {
-        Opening::Fields { h, start, end, sum } => lent::read_part(
+        Opening::Fields { h, start, end, sum } => lent::read_fields(
             frame,
             h,
             start,

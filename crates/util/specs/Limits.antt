@@ -59,6 +59,10 @@ most-counted = 127
 abbrev pub most-stream : ℕ
 most-stream = 65535
 
+-- the most lent places that the list of a message takes: the tunings of a key dump
+abbrev pub most-places : ℕ
+most-places = keys
+
 -- the longest frame, of 1,292 bytes: an open with select (0B 03) with the longest URL and the most maps
 abbrev pub most-frame : ℕ
 most-frame = 16 + most-url + 8 * most-counted

@@ -9,7 +9,7 @@ use lib.ListN.{length, take, drop}
 use lib.Seq.{drop-drop}
 use borrow.Author.Tests.{ltb-true, ltb-false}
 use Rattle.util.specs.Limits.{most-stream}
-use Rattle.util.specs.Splice.{front}
+use Rattle.util.specs.Splice.{overwritten}
 use Rattle.util.specs.declared.refusal.Refusal.the-variants.{Stream, Index}
 use Rattle.messages.specs.declared.«file_reference».Kind.{Kind}
 use Rattle.messages.specs.Walk.{Stretch, Listed, Rising, since, frames}
@@ -29,7 +29,7 @@ use Rattle.walk.proofs.Laws.Answers.{too-long, too-many, enough}
 walk-says : (k : Kind) (w : Walked) (s ix ix′ : List ℕ) → Walk k w s ix ix′ → w ≡ Frames (how-many k s)
 walk-says k w s ix ix′ c = c .met .says ∙ sym (enough k s ix (c .short) (c .long-enough) .0)
 
-walk-leaves : (k : Kind) (w : Walked) (s ix ix′ : List ℕ) → Walk k w s ix ix′ → ix′ ≡ front (flat (frames k s)) ix
+walk-leaves : (k : Kind) (w : Walked) (s ix ix′ : List ℕ) → Walk k w s ix ix′ → ix′ ≡ overwritten (flat (frames k s)) ix
 walk-leaves k w s ix ix′ c = c .met .index-is ∙ sym (enough k s ix (c .short) (c .long-enough) .1)
 
 walk-lists : (k : Kind) (w : Walked) (s ix ix′ : List ℕ) → Walk k w s ix ix′ → listed w ix′ ≡ frames k s

@@ -6,7 +6,7 @@ use lib.Dec.{ltb}
 use lib.ListN.{length}
 use Rattle.util.specs.Limits.{most-stream}
 use Rattle.util.specs.Pick.{pick}
-use Rattle.util.specs.Splice.{front}
+use Rattle.util.specs.Splice.{overwritten}
 use Rattle.util.specs.Refusals.{number}
 use Rattle.util.specs.declared.refusal.Refusal.the-variants.{Stream, Index}
 use Rattle.messages.specs.declared.«file_reference».Kind.{Kind}
@@ -47,7 +47,7 @@ answer k s ix =
 
 -- the pairs from the index's start; "numbers past the last pair keep their values", and all of them under a refusal
 unfoldable pub after : Kind → List ℕ → List ℕ → List ℕ
-after k s ix = pick (ltb most-stream (length s)) ix (pick (ltb (length ix / 2) (how-many k s)) ix (front (flat (frames k s)) ix))
+after k s ix = pick (ltb most-stream (length s)) ix (pick (ltb (length ix / 2) (how-many k s)) ix (overwritten (flat (frames k s)) ix))
 
 -- a walk over s for the kind k that was lent the index ix: what it answers, and the index ix′ that it leaves
 pub record WalkMet (r : Walked) (k : Kind) (s ix ix′ : List ℕ) : Type 0 where

@@ -6,7 +6,7 @@ use Prim.Native.Nat.{ℕ, _≤_}
 use native.Mathlib.Omega.{arith}
 use lib.ListN.{length}
 use Rattle.util.specs.Groups.{groups}
-use Rattle.util.specs.Splice.{front}
+use Rattle.util.specs.Splice.{overwritten}
 use Rattle.messages.specs.declared.«file_reference».SelectMap.{SelectMap}
 use Rattle.messages.specs.declared.«file_reference».SelectMap.the-variants as select
 use Rattle.messages.specs.declared.«system_exclusive».ManufacturerID.{ManufacturerID}
@@ -41,8 +41,8 @@ pub field : (k : ℕ) {r v : ℕ} {l m : List ℕ} → r ≡ v → l ≡ m → g
 field k e f = ap₂ (λ (x : ℕ) (y : List ℕ). groups k x ++ y) e f
 
 -- bytes written that are those of a front
-pub put : {bs cs ys : List ℕ} (xs : List ℕ) → bs ≡ cs → ys ≡ front bs xs → ys ≡ front cs xs
-put xs f e = e ∙ ap (λ (l : List ℕ). front l xs) f
+pub put : {bs cs ys : List ℕ} (xs : List ℕ) → bs ≡ cs → ys ≡ overwritten bs xs → ys ≡ overwritten cs xs
+put xs f e = e ∙ ap (λ (l : List ℕ). overwritten l xs) f
 
 -- no map is longer than 127 maps of a sound file with their number
 pub map-small : (m : SelectMap) (y : ℕ) → map-length m y ≤ 1017

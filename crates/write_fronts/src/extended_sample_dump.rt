@@ -12,7 +12,7 @@ ghost use mathlib.Core.Path.{_≡_};
 ghost use mathlib.Core.List.{_∷_, []};
 ghost use Prim.Native.Nat.{_≤_};
 ghost use lib.ListN.{length};
-ghost use Rattle.util.specs.Splice.{front};
+ghost use Rattle.util.specs.Splice.{overwritten};
 ghost use Rattle.messages.specs.Fields.{loop-value};
 ghost use Rattle.messages.specs.Structures.{extended-loop-byte};
 ghost use Rattle.write_fronts.specs.Fronts.{clamp, spell, start-2, front-extended};
@@ -21,7 +21,7 @@ ghost use Rattle.write_fronts.specs.Sizes.{size-extended};
 // Writes the front of the name of sample n.
 fn put_name(out: &mut [u8], d: u64, n: u16)
     requires { ⌜ 7 ≤ length (now out) ⌝ }
-    ensures { λ _. ⌜ now (out .exit) ≡ front (front-extended d (ExtendedSampleDumpMsg.SampleName n)) (now (out .entry)) ⌝ }
+    ensures { λ _. ⌜ now (out .exit) ≡ overwritten (front-extended d (ExtendedSampleDumpMsg.SampleName n)) (now (out .entry)) ⌝ }
 {
     let i = groups::hold(d, 127);
     let s = groups::hold(n as u64, 16383);
@@ -40,7 +40,7 @@ fn put_name(out: &mut [u8], d: u64, n: u16)
 // Writes a request for the name of sample n.
 fn put_name_request(out: &mut [u8], d: u64, n: u16)
     requires { ⌜ 6 ≤ length (now out) ⌝ }
-    ensures { λ _. ⌜ now (out .exit) ≡ front (front-extended d (ExtendedSampleDumpMsg.SampleNameRequest n)) (now (out .entry)) ⌝ }
+    ensures { λ _. ⌜ now (out .exit) ≡ overwritten (front-extended d (ExtendedSampleDumpMsg.SampleNameRequest n)) (now (out .entry)) ⌝ }
 {
     let i = groups::hold(d, 127);
     let s = groups::hold(n as u64, 16383);
@@ -66,7 +66,7 @@ fn put_header_rate(
     fraction: u32,
 )
     requires { ⌜ (15 ≤ length (now out)) × (f ≡ clamp 8 28 format) ⌝ }
-    ensures { λ _. ⌜ now (out .exit) ≡ front (start-2 d 0x05 0x05 ((2, sample) ∷ (1, clamp 8 28 format) ∷ (4, whole) ∷ (4, fraction) ∷ [])) (now (out .entry)) ⌝ }
+    ensures { λ _. ⌜ now (out .exit) ≡ overwritten (start-2 d 0x05 0x05 ((2, sample) ∷ (1, clamp 8 28 format) ∷ (4, whole) ∷ (4, fraction) ∷ [])) (now (out .entry)) ⌝ }
 {
     let i = groups::hold(d, 127);
     let n = groups::hold(sample as u64, 16383);
@@ -104,7 +104,7 @@ fn put_header_points(
     channels: u8,
 )
     requires { ⌜ (17 ≤ length (now out)) × (t ≡ extended-loop-byte kind) ⌝ }
-    ensures { λ _. ⌜ now (out .exit) ≡ front (spell ((5, len) ∷ (5, start) ∷ (5, end) ∷ (1, extended-loop-byte kind) ∷ (1, channels) ∷ [])) (now (out .entry)) ⌝ }
+    ensures { λ _. ⌜ now (out .exit) ≡ overwritten (spell ((5, len) ∷ (5, start) ∷ (5, end) ∷ (1, extended-loop-byte kind) ∷ (1, channels) ∷ [])) (now (out .entry)) ⌝ }
 {
     let l = groups::hold(len, 34359738367);
     let s = groups::hold(start, 34359738367);
@@ -146,7 +146,7 @@ fn put_loop_points(
     end: u64,
 )
     requires { ⌜ (19 ≤ length (now out)) × (v ≡ loop-value number) × (t ≡ extended-loop-byte kind) ⌝ }
-    ensures { λ _. ⌜ now (out .exit) ≡ front (front-extended d (ExtendedSampleDumpMsg.LoopPointTransmission n number kind start end)) (now (out .entry)) ⌝ }
+    ensures { λ _. ⌜ now (out .exit) ≡ overwritten (front-extended d (ExtendedSampleDumpMsg.LoopPointTransmission n number kind start end)) (now (out .entry)) ⌝ }
 {
     let i = groups::hold(d, 127);
     let m = groups::hold(n as u64, 16383);
@@ -195,7 +195,7 @@ fn put_header(
     channels: u8,
 )
     requires { ⌜ (32 ≤ length (now out)) × (f ≡ clamp 8 28 format) × (t ≡ extended-loop-byte kind) ⌝ }
-    ensures { λ _. ⌜ now (out .exit) ≡ front (front-extended d (ExtendedSampleDumpMsg.Header sample format whole fraction len start end kind channels)) (now (out .entry)) ⌝ }
+    ensures { λ _. ⌜ now (out .exit) ≡ overwritten (front-extended d (ExtendedSampleDumpMsg.Header sample format whole fraction len start end kind channels)) (now (out .entry)) ⌝ }
 {
     put_header_rate(out, d, sample, f, format, whole, fraction);
     put_header_points(&mut out[15..], len, start, end, t, kind, channels);
@@ -204,7 +204,7 @@ fn put_header(
 // Writes the front of an extended sample dump message.
 pub fn put(out: &mut [u8], d: u64, m: ExtendedSampleDumpMsg)
     requires { ⌜ size-extended m ≤ length (now out) ⌝ }
-    ensures { λ _. ⌜ now (out .exit) ≡ front (front-extended d m) (now (out .entry)) ⌝ }
+    ensures { λ _. ⌜ now (out .exit) ≡ overwritten (front-extended d m) (now (out .entry)) ⌝ }
 {
     match m {
         ExtendedSampleDumpMsg::SampleName { sample_num } => put_name(out, d, sample_num),

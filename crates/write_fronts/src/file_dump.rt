@@ -9,7 +9,7 @@ use util::groups;
 ghost use mathlib.Core.Path.{_≡_};
 ghost use Prim.Native.Nat.{_≤_};
 ghost use lib.ListN.{length};
-ghost use Rattle.util.specs.Splice.{front};
+ghost use Rattle.util.specs.Splice.{overwritten};
 ghost use Rattle.messages.specs.Fields.{device-byte, type-chars};
 ghost use Rattle.write_fronts.specs.Fronts.{front-file};
 ghost use Rattle.write_fronts.specs.Sizes.{size-file};
@@ -28,7 +28,7 @@ fn put_header(
     len: u32,
 )
     requires { ⌜ (13 ≤ length (now out)) × (s ≡ device-byte sender) × ((first, (second, (third, fourth))) ≡ type-chars kind) ⌝ }
-    ensures { λ _. ⌜ now (out .exit) ≡ front (front-file d (FileDumpMsg.Header sender kind len)) (now (out .entry)) ⌝ }
+    ensures { λ _. ⌜ now (out .exit) ≡ overwritten (front-file d (FileDumpMsg.Header sender kind len)) (now (out .entry)) ⌝ }
 {
     let i = groups::hold(d, 127);
     let h = groups::hold(s, 127);
@@ -58,7 +58,7 @@ fn put_header(
 // Writes the front of a packet of count c.
 fn put_packet(out: &mut [u8], d: u64, c: u8)
     requires { ⌜ 5 ≤ length (now out) ⌝ }
-    ensures { λ _. ⌜ now (out .exit) ≡ front (front-file d (FileDumpMsg.Packet c)) (now (out .entry)) ⌝ }
+    ensures { λ _. ⌜ now (out .exit) ≡ overwritten (front-file d (FileDumpMsg.Packet c)) (now (out .entry)) ⌝ }
 {
     let i = groups::hold(d, 127);
     let n = groups::hold(c as u64, 127);
@@ -79,7 +79,7 @@ fn put_request(
     kind: FileType,
 )
     requires { ⌜ (9 ≤ length (now out)) × (s ≡ device-byte requester) × ((first, (second, (third, fourth))) ≡ type-chars kind) ⌝ }
-    ensures { λ _. ⌜ now (out .exit) ≡ front (front-file d (FileDumpMsg.Request requester kind)) (now (out .entry)) ⌝ }
+    ensures { λ _. ⌜ now (out .exit) ≡ overwritten (front-file d (FileDumpMsg.Request requester kind)) (now (out .entry)) ⌝ }
 {
     let i = groups::hold(d, 127);
     let h = groups::hold(s, 127);
@@ -104,7 +104,7 @@ fn put_request(
 // Writes the front of a file dump message.
 pub fn put(out: &mut [u8], d: u64, m: FileDumpMsg)
     requires { ⌜ size-file m ≤ length (now out) ⌝ }
-    ensures { λ _. ⌜ now (out .exit) ≡ front (front-file d m) (now (out .entry)) ⌝ }
+    ensures { λ _. ⌜ now (out .exit) ≡ overwritten (front-file d m) (now (out .entry)) ⌝ }
 {
     match m {
         FileDumpMsg::Header {

@@ -11,7 +11,7 @@ use util::groups;
 ghost use mathlib.Core.Path.{_≡_};
 ghost use Prim.Native.Nat.{_+_, _≤_, min};
 ghost use lib.ListN.{length};
-ghost use Rattle.util.specs.Splice.{front};
+ghost use Rattle.util.specs.Splice.{overwritten};
 ghost use Rattle.messages.specs.Maps.{reference-letters};
 ghost use Rattle.write_fronts.specs.Fronts.{map-length, front-reference};
 ghost use Rattle.write_fronts.specs.Sizes.{size-reference};
@@ -31,7 +31,7 @@ fn put_open(
     y: usize,
 )
     requires { ⌜ (12 ≤ length (now out)) × (n ≡ 5 + min x 260) × ((first, (second, (third, fourth))) ≡ reference-letters kind) ⌝ }
-    ensures { λ _. ⌜ now (out .exit) ≡ front (front-reference d (FileReferenceMsg.Open ctx kind) x y) (now (out .entry)) ⌝ }
+    ensures { λ _. ⌜ now (out .exit) ≡ overwritten (front-reference d (FileReferenceMsg.Open ctx kind) x y) (now (out .entry)) ⌝ }
 {
     let i = groups::hold(d, 127);
     let t = groups::hold(ctx as u64, 16383);
@@ -60,7 +60,7 @@ fn put_open(
 // Writes the front of contents to select in context ctx; n is the length of the map.
 fn put_select(out: &mut [u8], d: u64, ctx: u16, n: u64, map: SelectMap, x: usize, y: usize)
     requires { ⌜ (8 ≤ length (now out)) × (n ≡ map-length map y) ⌝ }
-    ensures { λ _. ⌜ now (out .exit) ≡ front (front-reference d (FileReferenceMsg.SelectContents ctx map) x y) (now (out .entry)) ⌝ }
+    ensures { λ _. ⌜ now (out .exit) ≡ overwritten (front-reference d (FileReferenceMsg.SelectContents ctx map) x y) (now (out .entry)) ⌝ }
 {
     let i = groups::hold(d, 127);
     let t = groups::hold(ctx as u64, 16383);
@@ -94,7 +94,7 @@ fn put_open_select(
     y: usize,
 )
     requires { ⌜ (12 ≤ length (now out)) × (n ≡ 5 + min x 260 + map-length map y) × ((first, (second, (third, fourth))) ≡ reference-letters kind) ⌝ }
-    ensures { λ _. ⌜ now (out .exit) ≡ front (front-reference d (FileReferenceMsg.OpenSelectContents ctx kind map) x y) (now (out .entry)) ⌝ }
+    ensures { λ _. ⌜ now (out .exit) ≡ overwritten (front-reference d (FileReferenceMsg.OpenSelectContents ctx kind map) x y) (now (out .entry)) ⌝ }
 {
     let i = groups::hold(d, 127);
     let t = groups::hold(ctx as u64, 16383);
@@ -123,7 +123,7 @@ fn put_open_select(
 // Writes a file to close, of context ctx.
 fn put_close(out: &mut [u8], d: u64, ctx: u16, x: usize, y: usize)
     requires { ⌜ 8 ≤ length (now out) ⌝ }
-    ensures { λ _. ⌜ now (out .exit) ≡ front (front-reference d (FileReferenceMsg.Close ctx) x y) (now (out .entry)) ⌝ }
+    ensures { λ _. ⌜ now (out .exit) ≡ overwritten (front-reference d (FileReferenceMsg.Close ctx) x y) (now (out .entry)) ⌝ }
 {
     let i = groups::hold(d, 127);
     let t = groups::hold(ctx as u64, 16383);
@@ -143,7 +143,7 @@ fn put_close(out: &mut [u8], d: u64, ctx: u16, x: usize, y: usize)
 // Writes the front of a file reference message, for a text of x bytes and y entries.
 pub fn put(out: &mut [u8], d: u64, m: FileReferenceMsg, x: usize, y: usize)
     requires { ⌜ size-reference m ≤ length (now out) ⌝ }
-    ensures { λ _. ⌜ now (out .exit) ≡ front (front-reference d m x y) (now (out .entry)) ⌝ }
+    ensures { λ _. ⌜ now (out .exit) ≡ overwritten (front-reference d m x y) (now (out .entry)) ⌝ }
 {
     match m {
         FileReferenceMsg::Open { ctx, file_type } => {

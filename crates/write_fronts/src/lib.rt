@@ -9,7 +9,7 @@ use messages::tuning::TuningBank;
 ghost use mathlib.Core.Path.{_≡_};
 ghost use Prim.Native.Nat.{_≤_};
 ghost use lib.ListN.{length};
-ghost use Rattle.util.specs.Splice.{front};
+ghost use Rattle.util.specs.Splice.{overwritten};
 ghost use Rattle.write_fronts.specs.Fronts.{frontOf};
 ghost use Rattle.write_fronts.specs.Sizes.{size-sample, size-extended, size-maker, size-file, size-bank, size-reference, front-size};
 
@@ -129,7 +129,7 @@ pub fn front_size(m: UniversalNonRealTimeMsg) -> usize
 // Writes the front of a message for device byte d, a text of x bytes and y entries.
 pub fn put_front(out: &mut [u8], d: u64, m: UniversalNonRealTimeMsg, x: usize, y: usize)
     requires { ⌜ front-size m ≤ length (now out) ⌝ }
-    ensures { λ _. ⌜ now (out .exit) ≡ front (frontOf d m x y) (now (out .entry)) ⌝ }
+    ensures { λ _. ⌜ now (out .exit) ≡ overwritten (frontOf d m x y) (now (out .entry)) ⌝ }
 {
     match m {
         UniversalNonRealTimeMsg::SampleDump(s) => sample_dump::put(out, d, s),

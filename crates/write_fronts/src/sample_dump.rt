@@ -11,7 +11,7 @@ ghost use mathlib.Core.Path.{_≡_};
 ghost use mathlib.Core.List.{_∷_, [], _++_};
 ghost use Prim.Native.Nat.{_≤_};
 ghost use lib.ListN.{length};
-ghost use Rattle.util.specs.Splice.{front};
+ghost use Rattle.util.specs.Splice.{overwritten};
 ghost use Rattle.util.specs.Groups.{groups};
 ghost use Rattle.messages.specs.Fields.{loop-value};
 ghost use Rattle.messages.specs.Structures.{loop-byte};
@@ -21,7 +21,7 @@ ghost use Rattle.write_fronts.specs.Sizes.{size-sample};
 // Writes a header from values that are held.
 fn put_held_header(out: &mut [u8], i: u64, n: u64, h: u64, p: u64, l: u64, s: u64, e: u64, k: u64)
     requires { ⌜ 19 ≤ length (now out) ⌝ }
-    ensures { λ _. ⌜ now (out .exit) ≡ front (0x7E ∷ groups 1 i ++ (0x01 ∷ groups 2 n ++ (groups 1 h ++ (groups 3 p ++ (groups 3 l ++ (groups 3 s ++ (groups 3 e ++ groups 1 k))))))) (now (out .entry)) ⌝ }
+    ensures { λ _. ⌜ now (out .exit) ≡ overwritten (0x7E ∷ groups 1 i ++ (0x01 ∷ groups 2 n ++ (groups 1 h ++ (groups 3 p ++ (groups 3 l ++ (groups 3 s ++ (groups 3 e ++ groups 1 k))))))) (now (out .entry)) ⌝ }
 {
     let row = [
         0x7E,
@@ -62,7 +62,7 @@ pub fn put_header(
     kind: LoopType,
 )
     requires { ⌜ (19 ≤ length (now out)) × (f ≡ clamp 8 28 format) × (t ≡ loop-byte kind) ⌝ }
-    ensures { λ _. ⌜ now (out .exit) ≡ front (front-sample d (SampleDumpMsg.Header sample format period len start end kind)) (now (out .entry)) ⌝ }
+    ensures { λ _. ⌜ now (out .exit) ≡ overwritten (front-sample d (SampleDumpMsg.Header sample format period len start end kind)) (now (out .entry)) ⌝ }
 {
     let i = groups::hold(d, 127);
     let n = groups::hold(sample as u64, 16383);
@@ -78,7 +78,7 @@ pub fn put_header(
 // Writes a packet of count c.
 pub fn put_packet(out: &mut [u8], d: u64, c: u8)
     requires { ⌜ 4 ≤ length (now out) ⌝ }
-    ensures { λ _. ⌜ now (out .exit) ≡ front (front-sample d (SampleDumpMsg.Packet c)) (now (out .entry)) ⌝ }
+    ensures { λ _. ⌜ now (out .exit) ≡ overwritten (front-sample d (SampleDumpMsg.Packet c)) (now (out .entry)) ⌝ }
 {
     let i = groups::hold(d, 127);
     let n = groups::hold(c as u64, 127);
@@ -89,7 +89,7 @@ pub fn put_packet(out: &mut [u8], d: u64, c: u8)
 // Writes a request for sample n.
 fn put_request(out: &mut [u8], d: u64, n: u16)
     requires { ⌜ 5 ≤ length (now out) ⌝ }
-    ensures { λ _. ⌜ now (out .exit) ≡ front (front-sample d (SampleDumpMsg.Request n)) (now (out .entry)) ⌝ }
+    ensures { λ _. ⌜ now (out .exit) ≡ overwritten (front-sample d (SampleDumpMsg.Request n)) (now (out .entry)) ⌝ }
 {
     let i = groups::hold(d, 127);
     let s = groups::hold(n as u64, 16383);
@@ -116,7 +116,7 @@ fn put_loop_points(
     end: u32,
 )
     requires { ⌜ (15 ≤ length (now out)) × (v ≡ loop-value number) × (t ≡ loop-byte kind) ⌝ }
-    ensures { λ _. ⌜ now (out .exit) ≡ front (front-sample d (SampleDumpMsg.LoopPointTransmission sample number kind start end)) (now (out .entry)) ⌝ }
+    ensures { λ _. ⌜ now (out .exit) ≡ overwritten (front-sample d (SampleDumpMsg.LoopPointTransmission sample number kind start end)) (now (out .entry)) ⌝ }
 {
     let i = groups::hold(d, 127);
     let n = groups::hold(sample as u64, 16383);
@@ -147,7 +147,7 @@ fn put_loop_points(
 // Writes a request for the points of a loop of sample n; b is the second byte of the head and v the value of the number.
 pub fn put_loop_request(out: &mut [u8], d: u64, b: u64, n: u16, v: u64, number: LoopNumber)
     requires { ⌜ (8 ≤ length (now out)) × (v ≡ loop-value number) ⌝ }
-    ensures { λ _. ⌜ now (out .exit) ≡ front (start-2 d 0x05 b ((2, n) ∷ (2, loop-value number) ∷ [])) (now (out .entry)) ⌝ }
+    ensures { λ _. ⌜ now (out .exit) ≡ overwritten (start-2 d 0x05 b ((2, n) ∷ (2, loop-value number) ∷ [])) (now (out .entry)) ⌝ }
 {
     let i = groups::hold(d, 127);
     let h = groups::hold(b, 127);
@@ -169,7 +169,7 @@ pub fn put_loop_request(out: &mut [u8], d: u64, b: u64, n: u16, v: u64, number: 
 // Writes the front of a sample dump message.
 pub fn put(out: &mut [u8], d: u64, m: SampleDumpMsg)
     requires { ⌜ size-sample m ≤ length (now out) ⌝ }
-    ensures { λ _. ⌜ now (out .exit) ≡ front (front-sample d m) (now (out .entry)) ⌝ }
+    ensures { λ _. ⌜ now (out .exit) ≡ overwritten (front-sample d m) (now (out .entry)) ⌝ }
 {
     match m {
         SampleDumpMsg::Header {

@@ -9,14 +9,14 @@ ghost use mathlib.Core.Path.{_≡_};
 ghost use mathlib.Core.List.{_∷_, []};
 ghost use Prim.Native.Nat.{_≤_};
 ghost use lib.ListN.{length};
-ghost use Rattle.util.specs.Splice.{front};
+ghost use Rattle.util.specs.Splice.{overwritten};
 ghost use Rattle.write_fronts.specs.Fronts.{clamp, start-1, start-2, front-maker, front-reply, front-midi};
 ghost use Rattle.write_fronts.specs.Sizes.{size-maker};
 
 // Writes an identity request.
 pub fn put_identity_request(out: &mut [u8], d: u64)
     requires { ⌜ 4 ≤ length (now out) ⌝ }
-    ensures { λ _. ⌜ now (out .exit) ≡ front (start-2 d 0x06 0x01 []) (now (out .entry)) ⌝ }
+    ensures { λ _. ⌜ now (out .exit) ≡ overwritten (start-2 d 0x06 0x01 []) (now (out .entry)) ⌝ }
 {
     let i = groups::hold(d, 127);
     let row = [0x7E, (i % 128) as u8, 0x06, 0x01];
@@ -37,7 +37,7 @@ fn put_one_byte_reply(
     fourth: u8,
 )
     requires { ⌜ (13 ≤ length (now out)) × (k ≡ clamp 1 124 b) ⌝ }
-    ensures { λ _. ⌜ now (out .exit) ≡ front (front-maker d (ManufacturerID.OneByte b) ((2, family) ∷ (2, member) ∷ (1, first) ∷ (1, second) ∷ (1, third) ∷ (1, fourth) ∷ [])) (now (out .entry)) ⌝ }
+    ensures { λ _. ⌜ now (out .exit) ≡ overwritten (front-maker d (ManufacturerID.OneByte b) ((2, family) ∷ (2, member) ∷ (1, first) ∷ (1, second) ∷ (1, third) ∷ (1, fourth) ∷ [])) (now (out .entry)) ⌝ }
 {
     let i = groups::hold(d, 127);
     let h = groups::hold(k, 127);
@@ -79,7 +79,7 @@ fn put_extended_reply(
     fourth: u8,
 )
     requires { ⌜ 15 ≤ length (now out) ⌝ }
-    ensures { λ _. ⌜ now (out .exit) ≡ front (front-maker d (ManufacturerID.Extended a b) ((2, family) ∷ (2, member) ∷ (1, first) ∷ (1, second) ∷ (1, third) ∷ (1, fourth) ∷ [])) (now (out .entry)) ⌝ }
+    ensures { λ _. ⌜ now (out .exit) ≡ overwritten (front-maker d (ManufacturerID.Extended a b) ((2, family) ∷ (2, member) ∷ (1, first) ∷ (1, second) ∷ (1, third) ∷ (1, fourth) ∷ [])) (now (out .entry)) ⌝ }
 {
     let i = groups::hold(d, 127);
     let h = groups::hold(a as u64, 127);
@@ -113,7 +113,7 @@ fn put_extended_reply(
 // Writes General MIDI turned on or off; b is the second byte of the head.
 fn put_midi(out: &mut [u8], d: u64, b: u64)
     requires { ⌜ 4 ≤ length (now out) ⌝ }
-    ensures { λ _. ⌜ now (out .exit) ≡ front (start-2 d 0x09 b []) (now (out .entry)) ⌝ }
+    ensures { λ _. ⌜ now (out .exit) ≡ overwritten (start-2 d 0x09 b []) (now (out .entry)) ⌝ }
 {
     let i = groups::hold(d, 127);
     let h = groups::hold(b, 127);
@@ -124,7 +124,7 @@ fn put_midi(out: &mut [u8], d: u64, b: u64)
 // Writes a handshake message with the number n of a packet; a is the head.
 pub fn put_handshake(out: &mut [u8], d: u64, a: u64, n: u8)
     requires { ⌜ 4 ≤ length (now out) ⌝ }
-    ensures { λ _. ⌜ now (out .exit) ≡ front (start-1 d a ((1, n) ∷ [])) (now (out .entry)) ⌝ }
+    ensures { λ _. ⌜ now (out .exit) ≡ overwritten (start-1 d a ((1, n) ∷ [])) (now (out .entry)) ⌝ }
 {
     let i = groups::hold(d, 127);
     let h = groups::hold(a, 127);
@@ -136,7 +136,7 @@ pub fn put_handshake(out: &mut [u8], d: u64, a: u64, n: u8)
 // Writes an identity reply.
 pub fn put_identity_reply(out: &mut [u8], d: u64, r: IdentityReply)
     requires { ⌜ size-maker (r .id) ≤ length (now out) ⌝ }
-    ensures { λ _. ⌜ now (out .exit) ≡ front (front-reply d r) (now (out .entry)) ⌝ }
+    ensures { λ _. ⌜ now (out .exit) ≡ overwritten (front-reply d r) (now (out .entry)) ⌝ }
 {
     let id = r.id;
     let v = r.software_revision;
@@ -174,7 +174,7 @@ pub fn put_identity_reply(out: &mut [u8], d: u64, r: IdentityReply)
 // Writes a General MIDI message.
 pub fn put_general_midi(out: &mut [u8], d: u64, g: GeneralMidi)
     requires { ⌜ 4 ≤ length (now out) ⌝ }
-    ensures { λ _. ⌜ now (out .exit) ≡ front (front-midi d g) (now (out .entry)) ⌝ }
+    ensures { λ _. ⌜ now (out .exit) ≡ overwritten (front-midi d g) (now (out .entry)) ⌝ }
 {
     match g {
         GeneralMidi::GM1 => put_midi(out, d, 1),

@@ -5,7 +5,7 @@ use util::groups;
 ghost use mathlib.Core.Path.{_≡_};
 ghost use Prim.Native.Nat.{_+_, _*_, _≤_, _<_, min};
 ghost use lib.ListN.{length, getD};
-ghost use Rattle.util.specs.Splice.{front};
+ghost use Rattle.util.specs.Splice.{overwritten};
 ghost use Rattle.messages.specs.format.Core.{written};
 ghost use Rattle.messages.specs.Fields.{tuning};
 ghost use Rattle.messages.specs.Structures.{key-tuning};
@@ -16,7 +16,7 @@ ghost use Rattle.write_lists.specs.Writing.{items};
 // Writes the tuning of an entry: from 2^24 on there is none.
 pub fn put_tuning_entry(out: &mut [u8], e: u64)
     requires { ⌜ 3 ≤ length (now out) ⌝ }
-    ensures { λ _. ⌜ now (out .exit) ≡ front (written tuning (tuning-of e)) (now (out .entry)) ⌝ }
+    ensures { λ _. ⌜ now (out .exit) ≡ overwritten (written tuning (tuning-of e)) (now (out .entry)) ⌝ }
 {
     if e < 16777216 {
         fields::put_tuning(out, (e / 65536) as u8, (e % 65536) as u16);
@@ -28,7 +28,7 @@ pub fn put_tuning_entry(out: &mut [u8], e: u64)
 // Writes the note change of an entry: a key and a tuning.
 pub fn put_change(out: &mut [u8], e: u64)
     requires { ⌜ 4 ≤ length (now out) ⌝ }
-    ensures { λ _. ⌜ now (out .exit) ≡ front (written key-tuning (change-of e)) (now (out .entry)) ⌝ }
+    ensures { λ _. ⌜ now (out .exit) ≡ overwritten (written key-tuning (change-of e)) (now (out .entry)) ⌝ }
 {
     let key = groups::hold(e / 33554432, 255);
     groups::put_u7(out, key);
@@ -50,7 +50,7 @@ fn key_at(s: &[u64], i: usize) -> u64
 // Writes the tunings of 128 keys.
 pub fn put_keys(out: &mut [u8], s: &[u64])
     requires { ⌜ 384 ≤ length (now out) ⌝ }
-    ensures { λ _. ⌜ now (out .exit) ≡ front (part-keys (now (s .entry))) (now (out .entry)) ⌝ }
+    ensures { λ _. ⌜ now (out .exit) ≡ overwritten (part-keys (now (s .entry))) (now (out .entry)) ⌝ }
 {
     let mut at = 0;
     let mut i = 0;
@@ -65,7 +65,7 @@ pub fn put_keys(out: &mut [u8], s: &[u64])
 // Writes note changes, one after another.
 fn put_change_list(out: &mut [u8], s: &[u64])
     requires { ⌜ (length (now s) ≤ 127) × (4 * length (now s) ≤ length (now out)) ⌝ }
-    ensures { λ _. ⌜ now (out .exit) ≡ front (items key-tuning change-of (now (s .entry))) (now (out .entry)) ⌝ }
+    ensures { λ _. ⌜ now (out .exit) ≡ overwritten (items key-tuning change-of (now (s .entry))) (now (out .entry)) ⌝ }
 {
     let mut at = 0;
     let mut i = 0;
@@ -80,7 +80,7 @@ fn put_change_list(out: &mut [u8], s: &[u64])
 // Writes the number of note changes, at most 127, and so many of them.
 pub fn put_changes(out: &mut [u8], s: &[u64])
     requires { ⌜ 1 + 4 * min (length (now s)) 127 ≤ length (now out) ⌝ }
-    ensures { λ _. ⌜ now (out .exit) ≡ front (part-changes (now (s .entry))) (now (out .entry)) ⌝ }
+    ensures { λ _. ⌜ now (out .exit) ≡ overwritten (part-changes (now (s .entry))) (now (out .entry)) ⌝ }
 {
     let n = util::bytes::at_most(s.len(), 127);
     out[0] = n as u8;

@@ -9,7 +9,7 @@ ghost use mathlib.Core.Path.{_≡_};
 ghost use mathlib.Core.List.{_++_};
 ghost use Prim.Native.Nat.{_+_, _*_, _≤_, min};
 ghost use lib.ListN.{length};
-ghost use Rattle.util.specs.Splice.{front};
+ghost use Rattle.util.specs.Splice.{overwritten};
 ghost use Rattle.messages.specs.format.Core.{written};
 ghost use Rattle.messages.specs.Fields.{bit};
 ghost use Rattle.messages.specs.Maps.{sound-file-map, wav-map};
@@ -20,7 +20,7 @@ ghost use Rattle.write_lists.specs.Writing.{items};
 // Writes the bank map of an entry.
 pub fn put_map_entry(out: &mut [u8], e: u64)
     requires { ⌜ 8 ≤ length (now out) ⌝ }
-    ensures { λ _. ⌜ now (out .exit) ≡ front (written sound-file-map (map-of e)) (now (out .entry)) ⌝ }
+    ensures { λ _. ⌜ now (out .exit) ≡ overwritten (written sound-file-map (map-of e)) (now (out .entry)) ⌝ }
 {
     let flags = e / 512 % 2 + 2 * (e / 256 % 2);
     put_u14_at(out, 0, e / 4398046511104);
@@ -34,7 +34,7 @@ pub fn put_map_entry(out: &mut [u8], e: u64)
 // Writes bank maps, one after another.
 fn put_map_list(out: &mut [u8], s: &[u64])
     requires { ⌜ (length (now s) ≤ 127) × (8 * length (now s) ≤ length (now out)) ⌝ }
-    ensures { λ _. ⌜ now (out .exit) ≡ front (items sound-file-map map-of (now (s .entry))) (now (out .entry)) ⌝ }
+    ensures { λ _. ⌜ now (out .exit) ≡ overwritten (items sound-file-map map-of (now (s .entry))) (now (out .entry)) ⌝ }
 {
     let mut at = 0;
     let mut i = 0;
@@ -49,7 +49,7 @@ fn put_map_list(out: &mut [u8], s: &[u64])
 // Writes the number of bank maps, at most 127, and so many of them.
 pub fn put_maps(out: &mut [u8], s: &[u64])
     requires { ⌜ 1 + 8 * min (length (now s)) 127 ≤ length (now out) ⌝ }
-    ensures { λ _. ⌜ now (out .exit) ≡ front (part-maps (now (s .entry))) (now (out .entry)) ⌝ }
+    ensures { λ _. ⌜ now (out .exit) ≡ overwritten (part-maps (now (s .entry))) (now (out .entry)) ⌝ }
 {
     let n = util::bytes::at_most(s.len(), 127);
     out[0] = n as u8;
@@ -66,7 +66,7 @@ fn flag(d: bool) -> u64
 // Writes an offset of banks, with its drum flag.
 pub fn put_offset(out: &mut [u8], o: u16, d: bool)
     requires { ⌜ 7 ≤ length (now out) ⌝ }
-    ensures { λ _. ⌜ now (out .exit) ≡ front (part-offset o d) (now (out .entry)) ⌝ }
+    ensures { λ _. ⌜ now (out .exit) ≡ overwritten (part-offset o d) (now (out .entry)) ⌝ }
 {
     let f = flag(d);
     out[0] = 0x00;
@@ -80,7 +80,7 @@ pub fn put_offset(out: &mut [u8], o: u16, d: bool)
 // Writes a WAV map.
 pub fn put_wav(out: &mut [u8], m: WAVMap)
     requires { ⌜ 9 ≤ length (now out) ⌝ }
-    ensures { λ _. ⌜ now (out .exit) ≡ front (written wav-map m) (now (out .entry)) ⌝ }
+    ensures { λ _. ⌜ now (out .exit) ≡ overwritten (written wav-map m) (now (out .entry)) ⌝ }
 {
     put_u14_at(out, 0, m.dst_bank as u64);
     put_u7_at(out, 2, m.dst_prog as u64);
@@ -94,7 +94,7 @@ pub fn put_wav(out: &mut [u8], m: WAVMap)
 // Writes a WAV map and an offset.
 fn put_wav_offset(out: &mut [u8], m: WAVMap, o: u16, d: bool)
     requires { ⌜ 16 ≤ length (now out) ⌝ }
-    ensures { λ _. ⌜ now (out .exit) ≡ front (written wav-map m ++ part-offset o d) (now (out .entry)) ⌝ }
+    ensures { λ _. ⌜ now (out .exit) ≡ overwritten (written wav-map m ++ part-offset o d) (now (out .entry)) ⌝ }
 {
     put_wav(out, m);
     put_offset(&mut out[9..], o, d);
@@ -103,7 +103,7 @@ fn put_wav_offset(out: &mut [u8], m: WAVMap, o: u16, d: bool)
 // Writes what a select holds.
 pub fn put_select(out: &mut [u8], m: SelectMap, entries: &[u64])
     requires { ⌜ size-select m (length (now entries)) ≤ length (now out) ⌝ }
-    ensures { λ _. ⌜ now (out .exit) ≡ front (part-select m (now (entries .entry))) (now (out .entry)) ⌝ }
+    ensures { λ _. ⌜ now (out .exit) ≡ overwritten (part-select m (now (entries .entry))) (now (out .entry)) ⌝ }
 {
     match m {
         SelectMap::SoundFile => put_maps(out, entries),

@@ -4,7 +4,7 @@ ghost use mathlib.Core.List.{_∷_};
 ghost use Prim.Native.Nat.{_+_, _/_, _≤_, _<_};
 ghost use lib.ListN.{length, drop, getD};
 ghost use Rattle.util.specs.Packing.{tops, pack};
-ghost use Rattle.util.specs.Splice.{front};
+ghost use Rattle.util.specs.Splice.{overwritten};
 ghost use Rattle.messages.specs.format.Packed.{count-byte};
 ghost use Rattle.write_lists.specs.Writing.{next-left, pack-one};
 
@@ -33,7 +33,7 @@ fn tops_at(s: &[u8], i: usize) -> u8
 fn put_packed_byte(out: &mut [u8], s: &[u8], i: usize, k: usize) -> usize
     requires { ⌜ (i < length (now s)) × (i ≤ 65535) × (length (pack-one k (drop i (now s))) ≤ length (now out)) ⌝ }
     ensures { λ r. ⌜ (r ≡ length (pack-one k (drop i (now (s .entry)))))
-        × (now (out .exit) ≡ front (pack-one k (drop i (now (s .entry)))) (now (out .entry))) ⌝ }
+        × (now (out .exit) ≡ overwritten (pack-one k (drop i (now (s .entry)))) (now (out .entry))) ⌝ }
 {
     let b = s[i] % 128;
     if k == 0 {
@@ -56,7 +56,7 @@ fn next_left(k: usize) -> usize
 // Writes the data packed.
 fn put_packed(out: &mut [u8], s: &[u8])
     requires { ⌜ (length (now s) ≤ 111) × (length (pack 0 (now s)) ≤ length (now out)) ⌝ }
-    ensures { λ _. ⌜ now (out .exit) ≡ front (pack 0 (now (s .entry))) (now (out .entry)) ⌝ }
+    ensures { λ _. ⌜ now (out .exit) ≡ overwritten (pack 0 (now (s .entry))) (now (out .entry)) ⌝ }
 {
     let mut at = 0;
     let mut k = 0;
@@ -72,7 +72,7 @@ fn put_packed(out: &mut [u8], s: &[u8])
 // Writes the count byte and the data packed.
 pub fn put_file_data(out: &mut [u8], s: &[u8])
     requires { ⌜ (length (now s) ≤ 111) × (1 + length (now s) + (length (now s) + 6) / 7 ≤ length (now out)) ⌝ }
-    ensures { λ _. ⌜ now (out .exit) ≡ front (count-byte (now (s .entry)) ∷ pack 0 (now (s .entry))) (now (out .entry)) ⌝ }
+    ensures { λ _. ⌜ now (out .exit) ≡ overwritten (count-byte (now (s .entry)) ∷ pack 0 (now (s .entry))) (now (out .entry)) ⌝ }
 {
     let n = s.len();
     out[0] = (n + n / 7) as u8;

@@ -18,7 +18,7 @@ ghost use mathlib.Core.Option.{none};
 ghost use mathlib.Core.List.{_++_};
 ghost use Prim.Native.Nat.{_+_, _≤_, min};
 ghost use lib.ListN.{length};
-ghost use Rattle.util.specs.Splice.{front};
+ghost use Rattle.util.specs.Splice.{overwritten};
 ghost use Rattle.messages.specs.format.Core.{written};
 ghost use Rattle.messages.specs.Fields.{name-of-16, url};
 ghost use Rattle.messages.specs.Structures.{scale-1, scale-2};
@@ -29,7 +29,7 @@ ghost use Rattle.write_lists.specs.Parts.{part-sample, part-extended, pa
 // Writes what follows the front of a sample dump message.
 pub fn put_part_sample(out: &mut [u8], m: SampleDumpMsg, text: &[u8])
     requires { ⌜ size-sample m ≤ length (now out) ⌝ }
-    ensures { λ _. ⌜ now (out .exit) ≡ front (part-sample m (now (text .entry))) (now (out .entry)) ⌝ }
+    ensures { λ _. ⌜ now (out .exit) ≡ overwritten (part-sample m (now (text .entry))) (now (out .entry)) ⌝ }
 {
     match m {
         SampleDumpMsg::Header { .. } => {}
@@ -43,7 +43,7 @@ pub fn put_part_sample(out: &mut [u8], m: SampleDumpMsg, text: &[u8])
 // Writes what follows the front of an extended sample dump message.
 pub fn put_part_extended(out: &mut [u8], m: ExtendedSampleDumpMsg, text: &[u8])
     requires { ⌜ size-extended m (length (now text)) ≤ length (now out) ⌝ }
-    ensures { λ _. ⌜ now (out .exit) ≡ front (part-extended m (now (text .entry))) (now (out .entry)) ⌝ }
+    ensures { λ _. ⌜ now (out .exit) ≡ overwritten (part-extended m (now (text .entry))) (now (out .entry)) ⌝ }
 {
     match m {
         ExtendedSampleDumpMsg::SampleName { .. } => text::put_sample_name(out, text),
@@ -57,7 +57,7 @@ pub fn put_part_extended(out: &mut [u8], m: ExtendedSampleDumpMsg, text: &[u8])
 // Writes what follows the front of a file dump message.
 pub fn put_part_file(out: &mut [u8], m: FileDumpMsg, text: &[u8])
     requires { ⌜ (contents (head-file m) (fields-file m (now text)) ≡ none) × (size-file m (length (now text)) ≤ length (now out)) ⌝ }
-    ensures { λ _. ⌜ now (out .exit) ≡ front (part-file m (now (text .entry))) (now (out .entry)) ⌝ }
+    ensures { λ _. ⌜ now (out .exit) ≡ overwritten (part-file m (now (text .entry))) (now (out .entry)) ⌝ }
 {
     match m {
         FileDumpMsg::Header { .. } => bytes::copy(out, text),
@@ -69,7 +69,7 @@ pub fn put_part_file(out: &mut [u8], m: FileDumpMsg, text: &[u8])
 // Writes a name and the tunings of 128 keys.
 fn put_key_dump(out: &mut [u8], text: &[u8], entries: &[u64])
     requires { ⌜ 400 ≤ length (now out) ⌝ }
-    ensures { λ _. ⌜ now (out .exit) ≡ front (written name-of-16 (now (text .entry)) ++ part-keys (now (entries .entry))) (now (out .entry)) ⌝ }
+    ensures { λ _. ⌜ now (out .exit) ≡ overwritten (written name-of-16 (now (text .entry)) ++ part-keys (now (entries .entry))) (now (out .entry)) ⌝ }
 {
     text::put_name_16(out, text);
     entries::put_keys(&mut out[16..], entries);
@@ -78,7 +78,7 @@ fn put_key_dump(out: &mut [u8], text: &[u8], entries: &[u64])
 // Writes a name and a scale of one byte each.
 fn put_scale_dump_1(out: &mut [u8], text: &[u8], s: Scale1Byte)
     requires { ⌜ 28 ≤ length (now out) ⌝ }
-    ensures { λ _. ⌜ now (out .exit) ≡ front (written name-of-16 (now (text .entry)) ++ written scale-1 s) (now (out .entry)) ⌝ }
+    ensures { λ _. ⌜ now (out .exit) ≡ overwritten (written name-of-16 (now (text .entry)) ++ written scale-1 s) (now (out .entry)) ⌝ }
 {
     text::put_name_16(out, text);
     scales::put_scale_1(&mut out[16..], s);
@@ -87,7 +87,7 @@ fn put_scale_dump_1(out: &mut [u8], text: &[u8], s: Scale1Byte)
 // Writes a name and a scale of two bytes each.
 pub fn put_scale_dump_2(out: &mut [u8], text: &[u8], s: Scale2Byte)
     requires { ⌜ 40 ≤ length (now out) ⌝ }
-    ensures { λ _. ⌜ now (out .exit) ≡ front (written name-of-16 (now (text .entry)) ++ written scale-2 s) (now (out .entry)) ⌝ }
+    ensures { λ _. ⌜ now (out .exit) ≡ overwritten (written name-of-16 (now (text .entry)) ++ written scale-2 s) (now (out .entry)) ⌝ }
 {
     text::put_name_16(out, text);
     scales::put_scale_2(&mut out[16..], s);
@@ -96,7 +96,7 @@ pub fn put_scale_dump_2(out: &mut [u8], text: &[u8], s: Scale2Byte)
 // Writes a URL and what a select holds.
 fn put_url_select(out: &mut [u8], m: SelectMap, text: &[u8], entries: &[u64])
     requires { ⌜ min (length (now text)) 260 + 1 + size-select m (length (now entries)) ≤ length (now out) ⌝ }
-    ensures { λ _. ⌜ now (out .exit) ≡ front (written url (now (text .entry)) ++ part-select m (now (entries .entry))) (now (out .entry)) ⌝ }
+    ensures { λ _. ⌜ now (out .exit) ≡ overwritten (written url (now (text .entry)) ++ part-select m (now (entries .entry))) (now (out .entry)) ⌝ }
 {
     text::put_url(out, text);
     let at = util::bytes::at_most(text.len(), 260) + 1;
@@ -106,7 +106,7 @@ fn put_url_select(out: &mut [u8], m: SelectMap, text: &[u8], entries: &[u64])
 // Writes what follows the front of a file reference message.
 pub fn put_part_reference(out: &mut [u8], m: FileReferenceMsg, text: &[u8], entries: &[u64])
     requires { ⌜ size-reference m (length (now text)) (length (now entries)) ≤ length (now out) ⌝ }
-    ensures { λ _. ⌜ now (out .exit) ≡ front (part-reference m (now (text .entry)) (now (entries .entry))) (now (out .entry)) ⌝ }
+    ensures { λ _. ⌜ now (out .exit) ≡ overwritten (part-reference m (now (text .entry)) (now (entries .entry))) (now (out .entry)) ⌝ }
 {
     match m {
         FileReferenceMsg::Open { .. } => text::put_url(out, text),
@@ -124,7 +124,7 @@ pub fn put_part_reference(out: &mut [u8], m: FileReferenceMsg, text: &[u8], entr
 pub fn put_part(out: &mut [u8], m: UniversalNonRealTimeMsg, text: &[u8], entries: &[u64])
     requires { ⌜ (contents (headOf m) (fieldsOf m (now text) (now entries)) ≡ none)
         × (length (partOf m (now text) (now entries)) ≤ length (now out)) ⌝ }
-    ensures { λ _. ⌜ now (out .exit) ≡ front (partOf m (now (text .entry)) (now (entries .entry))) (now (out .entry)) ⌝ }
+    ensures { λ _. ⌜ now (out .exit) ≡ overwritten (partOf m (now (text .entry)) (now (entries .entry))) (now (out .entry)) ⌝ }
 {
     match m {
         UniversalNonRealTimeMsg::SampleDump(x) => put_part_sample(out, x, text),

@@ -6,7 +6,7 @@ use messages::tuning::Scale2Byte;
 ghost use mathlib.Core.Path.{_≡_};
 ghost use Prim.Native.Nat.{_+_, _≤_};
 ghost use lib.ListN.{length};
-ghost use Rattle.util.specs.Splice.{front, splice};
+ghost use Rattle.util.specs.Splice.{overwritten, splice};
 ghost use Rattle.messages.specs.format.Core.{written};
 ghost use Rattle.messages.specs.Fields.{s7, s14};
 ghost use Rattle.messages.specs.Structures.{scale-1, scale-2};
@@ -26,7 +26,7 @@ fn put_four_1(out: &mut [u8], at: usize, a: i8, b: i8, c: i8, d: i8)
 // Writes twelve signed values of one byte each.
 pub fn put_scale_1(out: &mut [u8], s: Scale1Byte)
     requires { ⌜ 12 ≤ length (now out) ⌝ }
-    ensures { λ _. ⌜ now (out .exit) ≡ front (written scale-1 s) (now (out .entry)) ⌝ }
+    ensures { λ _. ⌜ now (out .exit) ≡ overwritten (written scale-1 s) (now (out .entry)) ⌝ }
 {
     put_four_1(out, 0, s.c, s.c_sharp, s.d, s.d_sharp);
     put_four_1(out, 4, s.e, s.f, s.f_sharp, s.g);
@@ -47,7 +47,7 @@ fn put_four_2(out: &mut [u8], at: usize, a: i16, b: i16, c: i16, d: i16)
 // Writes twelve signed values of two bytes each.
 pub fn put_scale_2(out: &mut [u8], s: Scale2Byte)
     requires { ⌜ 24 ≤ length (now out) ⌝ }
-    ensures { λ _. ⌜ now (out .exit) ≡ front (written scale-2 s) (now (out .entry)) ⌝ }
+    ensures { λ _. ⌜ now (out .exit) ≡ overwritten (written scale-2 s) (now (out .entry)) ⌝ }
 {
     put_four_2(out, 0, s.c, s.c_sharp, s.d, s.d_sharp);
     put_four_2(out, 8, s.e, s.f, s.f_sharp, s.g);

@@ -4,7 +4,7 @@ use util::bytes::at_most;
 ghost use mathlib.Core.Path.{_≡_};
 ghost use Prim.Native.Nat.{_+_, _≤_, min};
 ghost use lib.ListN.{length};
-ghost use Rattle.util.specs.Splice.{front};
+ghost use Rattle.util.specs.Splice.{overwritten};
 ghost use Rattle.messages.specs.format.Core.{written};
 ghost use Rattle.messages.specs.Fields.{name-of-16, sample-name, url};
 ghost use Rattle.messages.specs.Structures.{samples};
@@ -20,7 +20,7 @@ fn held(b: u8) -> u8
 // Writes the bytes of a text, each held to 127.
 fn put_held(out: &mut [u8], s: &[u8])
     requires { ⌜ length (now s) ≤ length (now out) ⌝ }
-    ensures { λ _. ⌜ now (out .exit) ≡ front (fill-to 0 (length (now (s .entry))) (now (s .entry))) (now (out .entry)) ⌝ }
+    ensures { λ _. ⌜ now (out .exit) ≡ overwritten (fill-to 0 (length (now (s .entry))) (now (s .entry))) (now (out .entry)) ⌝ }
 {
     let mut i = 0;
     while i < s.len() {
@@ -33,7 +33,7 @@ fn put_held(out: &mut [u8], s: &[u8])
 // Writes n bytes of a text, each held to 127, filled with f.
 fn put_filled(out: &mut [u8], s: &[u8], n: usize, f: u8)
     requires { ⌜ n ≤ length (now out) ⌝ }
-    ensures { λ _. ⌜ now (out .exit) ≡ front (fill-to f n (now (s .entry))) (now (out .entry)) ⌝ }
+    ensures { λ _. ⌜ now (out .exit) ≡ overwritten (fill-to f n (now (s .entry))) (now (out .entry)) ⌝ }
 {
     let k = at_most(s.len(), n);
     put_held(out, &s[..k]);
@@ -44,7 +44,7 @@ fn put_filled(out: &mut [u8], s: &[u8], n: usize, f: u8)
 // Writes 120 sample bytes, filled with 00.
 pub fn put_samples(out: &mut [u8], s: &[u8])
     requires { ⌜ 120 ≤ length (now out) ⌝ }
-    ensures { λ _. ⌜ now (out .exit) ≡ front (written samples (now (s .entry))) (now (out .entry)) ⌝ }
+    ensures { λ _. ⌜ now (out .exit) ≡ overwritten (written samples (now (s .entry))) (now (out .entry)) ⌝ }
 {
     put_filled(out, s, 120, 0);
 }
@@ -52,7 +52,7 @@ pub fn put_samples(out: &mut [u8], s: &[u8])
 // Writes a name of 16 bytes, filled with spaces.
 pub fn put_name_16(out: &mut [u8], s: &[u8])
     requires { ⌜ 16 ≤ length (now out) ⌝ }
-    ensures { λ _. ⌜ now (out .exit) ≡ front (written name-of-16 (now (s .entry))) (now (out .entry)) ⌝ }
+    ensures { λ _. ⌜ now (out .exit) ≡ overwritten (written name-of-16 (now (s .entry))) (now (out .entry)) ⌝ }
 {
     put_filled(out, s, 16, 0x20);
 }
@@ -60,7 +60,7 @@ pub fn put_name_16(out: &mut [u8], s: &[u8])
 // Writes a name's length, at most 127, and so many bytes of it.
 pub fn put_sample_name(out: &mut [u8], s: &[u8])
     requires { ⌜ 1 + min (length (now s)) 127 ≤ length (now out) ⌝ }
-    ensures { λ _. ⌜ now (out .exit) ≡ front (written sample-name (now (s .entry))) (now (out .entry)) ⌝ }
+    ensures { λ _. ⌜ now (out .exit) ≡ overwritten (written sample-name (now (s .entry))) (now (out .entry)) ⌝ }
 {
     let n = at_most(s.len(), 127);
     out[0] = n as u8;
@@ -70,7 +70,7 @@ pub fn put_sample_name(out: &mut [u8], s: &[u8])
 // Writes the first 260 bytes of a URL, and 00.
 pub fn put_url(out: &mut [u8], s: &[u8])
     requires { ⌜ min (length (now s)) 260 + 1 ≤ length (now out) ⌝ }
-    ensures { λ _. ⌜ now (out .exit) ≡ front (written url (now (s .entry))) (now (out .entry)) ⌝ }
+    ensures { λ _. ⌜ now (out .exit) ≡ overwritten (written url (now (s .entry))) (now (out .entry)) ⌝ }
 {
     let n = at_most(s.len(), 260);
     bytes::copy(out, &s[..n]);

@@ -8,7 +8,7 @@ use util::refusal::Refusal;
 ghost use mathlib.Core.Path.{_≡_};
 ghost use Prim.Native.Nat.{_≤_};
 ghost use lib.ListN.{length};
-ghost use Rattle.util.specs.Splice.{front};
+ghost use Rattle.util.specs.Splice.{overwritten};
 ghost use Rattle.messages.specs.Fields.{device-byte};
 ghost use Rattle.messages.specs.Messages.{given};
 ghost use Rattle.writer.specs.Write.{written-at, output-after};
@@ -50,7 +50,7 @@ pub fn handshake_of(m: UniversalNonRealTimeMsg) -> Handshake
 // Writes the frame of a handshake message.
 fn put_handshake(out: &mut [u8], d: u64, a: u8, n: u8)
     requires { ⌜ 6 ≤ length (now out) ⌝ }
-    ensures { λ _. ⌜ now (out .exit) ≡ front (handshake-frame d a n) (now (out .entry)) ⌝ }
+    ensures { λ _. ⌜ now (out .exit) ≡ overwritten (handshake-frame d a n) (now (out .entry)) ⌝ }
 {
     let i = groups::hold(d, 127);
     let h = groups::hold(a as u64, 127);

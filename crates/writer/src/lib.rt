@@ -13,7 +13,7 @@ ghost use mathlib.Core.Option.{none};
 ghost use mathlib.Core.List.{[], _++_};
 ghost use Prim.Native.Nat.{_+_, _-_, _≤_, _<_};
 ghost use lib.ListN.{length, take, drop};
-ghost use Rattle.util.specs.Splice.{front, splice};
+ghost use Rattle.util.specs.Splice.{overwritten, splice};
 ghost use Rattle.messages.specs.Layouts.{summed};
 ghost use Rattle.messages.specs.Messages.{given, writeOf};
 ghost use Rattle.messages.specs.Contents.{contents};
@@ -130,7 +130,7 @@ fn put_frame(
         × (size ≡ front-size m)
         × (part ≡ length (partOf m (now text) (now entries)))
         × (length (wire sum (frontOf d m (length (now text)) (length (now entries)) ++ partOf m (now text) (now entries))) ≤ length (now out)) ⌝ }
-    ensures { λ _. ⌜ now (out .exit) ≡ front (wire sum (frontOf d m (length (now (text .entry))) (length (now (entries .entry))) ++ partOf m (now (text .entry)) (now (entries .entry)))) (now (out .entry)) ⌝ }
+    ensures { λ _. ⌜ now (out .exit) ≡ overwritten (wire sum (frontOf d m (length (now (text .entry))) (length (now (entries .entry))) ++ partOf m (now (text .entry)) (now (entries .entry)))) (now (out .entry)) ⌝ }
 {
     out[0] = 0xF0;
     write_fronts::put_front(&mut out[1..], d, m, text.len(), entries.len());
@@ -193,7 +193,7 @@ fn put_admitted(
     requires { ⌜ (contents (headOf m) (fieldsOf m (now text) (now entries)) ≡ none)
         × SizesOf s m (now text) (now entries)
         × (length (frame-of device m (now text) (now entries)) ≤ length (now out)) ⌝ }
-    ensures { λ _. ⌜ now (out .exit) ≡ front (frame-of device m (now (text .entry)) (now (entries .entry))) (now (out .entry)) ⌝ }
+    ensures { λ _. ⌜ now (out .exit) ≡ overwritten (frame-of device m (now (text .entry)) (now (entries .entry))) (now (out .entry)) ⌝ }
 {
     let d = messages::system_exclusive::device_byte(device);
     put_frame(out, d, m, text, entries, s.front, s.part, s.sum);

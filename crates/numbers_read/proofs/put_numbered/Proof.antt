@@ -6,7 +6,7 @@ use Prim.Native.Nat.{ℕ}
 use native.Mathlib.Omega.{arith}
 use lib.ListN.{length-set}
 use denote.Ref.{now}
-use Rattle.util.specs.Splice.{front}
+use Rattle.util.specs.Splice.{overwritten}
 use Rattle.util.proofs.Laws.Splice.{sets-front}
 use Rattle.numbers_to_message.specs.Values.{device-number-of}
 use borrow.Author.Needs.{needs}
@@ -35,7 +35,7 @@ returns : tie.Need-returns
 returns c = let s = c .before .before .before in
     let l = now (s .args .answer) in
     sets-front (3 ∷ 0 ∷ 0 ∷ 0 ∷ s .args .code ∷ c .device-number .result ∷ s .args .packet ∷ []) l (omega (arith, s .pre))
-    ∙ ap (λ (v : ℕ). front (3 ∷ 0 ∷ 0 ∷ 0 ∷ s .args .code ∷ v ∷ s .args .packet ∷ []) l) (c .device-number .ensures ∙ ap device-number-of (c .before .device-of .ensures))
+    ∙ ap (λ (v : ℕ). overwritten (3 ∷ 0 ∷ 0 ∷ 0 ∷ s .args .code ∷ v ∷ s .args .packet ∷ []) l) (c .device-number .ensures ∙ ap device-number-of (c .before .device-of .ensures))
 
 pub put-numbered-spec : {M : Type 1} → statement M
 put-numbered-spec =

@@ -6,7 +6,7 @@ use Prim.Native.Nat.{ℕ}
 use native.Mathlib.Omega.{arith}
 use denote.Ref.{now}
 use lib.ListN.{length-set}
-use Rattle.util.specs.Splice.{front}
+use Rattle.util.specs.Splice.{overwritten}
 use Rattle.numbers_of_message.specs.Numbers.{numbers-of}
 use Rattle.numbers_read.proofs.Laws.{behind-length, behind-four}
 use Rattle.numbers_read.proofs.Counts.{at-most-16}
@@ -31,7 +31,7 @@ returns c =
     let s = c .before .before .before .before .before .args in
     let ns = numbers-of (s .device) (s .m) in
     behind-four (now (s .answer)) _ ns (c .before .before .before .before .before .pre) (at-most-16 (s .device) (s .m)) (c .before .before .to-numbers .ensures .1) _ _ _ _
-    ∙ ap (λ (n : ℕ). front (n ∷ s .from ∷ s .len ∷ s .places ∷ ns) (now (s .answer))) (c .before .before .to-numbers .ensures .0)
+    ∙ ap (λ (n : ℕ). overwritten (n ∷ s .from ∷ s .len ∷ s .places ∷ ns) (now (s .answer))) (c .before .before .to-numbers .ensures .0)
 
 pub put-reading-spec : {M : Type 1} → statement M
 put-reading-spec =

@@ -7,7 +7,7 @@ use native.Mathlib.Omega.{arith}
 use denote.Ref.{now}
 use lib.ListN.{length, take, drop, length-set}
 use borrow.Rule.Slice.PartMut.{putMid}
-use Rattle.util.specs.Splice.{front}
+use Rattle.util.specs.Splice.{overwritten}
 use Rattle.messages.specs.declared.«system_exclusive».UniversalNonRealTimeMsg.the-variants as msg
 use Rattle.numbers_to_message.specs.Types.{DeviceID, SampleDumpMsg, UniversalNonRealTimeMsg}
 use Rattle.numbers_to_message.specs.Values.{device-number-of}
@@ -40,12 +40,12 @@ row c = numbers-of (st c .args .device) (msg.SampleDump (dump c))
 abbrev behind : tie.After-slice-known2 → List ℕ
 behind c = take (length (now (st c .args .answer)) - 4) (drop 4 (now (st c .args .answer)))
 
-told : (c : tie.After-slice-known2) → Put (row c) (behind c) (c .before .before .put-message .last .0) (c .before .before .put-message .result)
-told c = put-as _ (st c .args .device) (dump c) (behind c) _ _ (c .before .before .before .before .device-number .ensures) (c .before .before .put-message .ensures)
+representable : (c : tie.After-slice-known2) → Put (row c) (behind c) (c .before .before .put-message .last .0) (c .before .before .put-message .result)
+representable c = put-as _ (st c .args .device) (dump c) (behind c) _ _ (c .before .before .before .before .device-number .ensures) (c .before .before .put-message .ensures)
 
 long : (c : tie.After-slice-known2)
     → length (putMid 4 (length (now (st c .args .answer)) - 4) (now (st c .args .answer)) (c .before .before .put-message .last .0)) ≡ length (now (st c .args .answer))
-long c = behind-length (now (st c .args .answer)) _ (row c) (st c .pre) (at-most-16 (st c .args .device) (msg.SampleDump (dump c))) (told c .there)
+long c = behind-length (now (st c .args .answer)) _ (row c) (st c .pre) (at-most-16 (st c .args .device) (msg.SampleDump (dump c))) (representable c .there)
 
 slice-write-answer-2 : tie.Need-slice-write-answer-2
 slice-write-answer-2 c = simp length-set (omega (arith, long c))
@@ -58,9 +58,9 @@ slice-write-answer-4 c = simp length-set (omega (arith, long c))
 
 returns : tie.Need-returns
 returns c = let a = st c .args in
-    behind-four (now (a .answer)) _ (row c) (st c .pre) (at-most-16 (a .device) (msg.SampleDump (dump c))) (told c .there) _ _ _ _
-    ∙ ap (λ (n : ℕ). front (n ∷ a .from ∷ a .len ∷ 0 ∷ row c) (now (a .answer))) (told c .count)
-    ∙ ap (λ (m : UniversalNonRealTimeMsg). front (reading-numbers (Frame (a .device) m (a .from) (a .len) 0)) (now (a .answer))) (sym (c .before .before .before .before .before .before .m .given .1))
+    behind-four (now (a .answer)) _ (row c) (st c .pre) (at-most-16 (a .device) (msg.SampleDump (dump c))) (representable c .there) _ _ _ _
+    ∙ ap (λ (n : ℕ). overwritten (n ∷ a .from ∷ a .len ∷ 0 ∷ row c) (now (a .answer))) (representable c .count)
+    ∙ ap (λ (m : UniversalNonRealTimeMsg). overwritten (reading-numbers (Frame (a .device) m (a .from) (a .len) 0)) (now (a .answer))) (sym (c .before .before .before .before .before .before .m .given .1))
 
 pub put-sample-spec : {M : Type 1} → statement M
 put-sample-spec =

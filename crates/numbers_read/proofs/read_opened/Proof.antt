@@ -16,7 +16,7 @@ returns-2 c = let r = c .before .before .before .before .before .before in
     let i = r .before .before .before .before in
     let h = i .before .before .before in
     let s = h .before .before .before .before .before .before in
-    other-to _ (now (s .args .frame)) (now (s .args .answer)) _ (h .put-plain .result) (h .put-plain .ensures) (i .if1 .left) _ _ _ _ _ _ (r .read-part .ensures)
+    other-to _ (now (s .args .frame)) (now (s .args .answer)) _ (h .put-plain .result) (h .put-plain .ensures) (i .if1 .left) _ _ _ _ _ _ (r .read-fields .ensures)
 
 pub read-opened-spec : {M : Type 1} → statement M
 read-opened-spec =

@@ -11,7 +11,7 @@ use lib.Seq.{take-take, take-all, drop-drop, take-at}
 use borrow.Author.Tests.{le-leb, lt-leb}
 use Rattle.util.specs.Groups.{Seven}
 use Rattle.util.specs.Pick.{pick}
-use Rattle.util.specs.Splice.{front}
+use Rattle.util.specs.Splice.{overwritten}
 use Rattle.util.specs.declared.refusal.Refusal.{Refusal}
 use Rattle.util.specs.declared.refusal.Refusal.the-variants.{Hold}
 use Rattle.messages.specs.declared.«system_exclusive».DeviceID.{DeviceID}
@@ -24,7 +24,7 @@ use Rattle.read_places.specs.Found.{data-of, entries-of, text-from}
 use Rattle.reader.specs.declared.lent.Reading.{Reading}
 use Rattle.reader.specs.declared.lent.Reading.the-variants as reading
 use Rattle.reader.specs.Opening.{inner, fields-in}
-use Rattle.reader.specs.Reading.{said, part-and-places, part-and-places-of, Tells, data-after, entries-after, ReadMet, has-data}
+use Rattle.reader.specs.Reading.{said, text-and-places, text-and-places-of, Tells, data-after, entries-after, ReadMet, has-data}
 use Rattle.reader.specs.Filled.{enough, Filled}
 use Rattle.reader.proofs.Laws.Apart.{data-is-at, no-entries, no-data, text-is-part, entries-free}
 use Rattle.reader.proofs.Laws.Lent.{lent-entries, lent-data}
@@ -61,7 +61,7 @@ text-part frame start end from len h =
 
 -- ---- lent space filled
 
-front-take : (d l : List ℕ) (n : ℕ) → length d ≡ n → take n (front d l) ≡ d
+front-take : (d l : List ℕ) (n : ℕ) → length d ≡ n → take n (overwritten d l) ≡ d
 front-take d l n e = take-at d (drop (length d) l) n e
 
 module _ (m : UniversalNonRealTimeMsg) (f : List ℕ) (i n : ℕ) (size : length (data-of m f i) + length (entries-of m f i n) ≡ n) where
@@ -76,17 +76,17 @@ module _ (m : UniversalNonRealTimeMsg) (f : List ℕ) (i n : ℕ) (size : length
   data-at-size h = ap length (sym (data-is-at m f i h)) ∙ data-size h
 
   said-by : (b : Bool) → has-data m ≡ b → (part dat es : List ℕ)
-      → fieldsOf m (text-from m part (take n (front (data-of m f i) dat))) (take n (front (entries-of m f i n) es))
+      → fieldsOf m (text-from m part (take n (overwritten (data-of m f i) dat))) (take n (overwritten (entries-of m f i n) es))
       ≡ fieldsOf m (text-from m part (data-of m f i)) (entries-of m f i n)
   said-by true h part dat es =
-      ap (λ (t : List ℕ). fieldsOf m (text-from m part t) (take n (front (entries-of m f i n) es))) (front-take (data-of m f i) dat n (data-size h))
-      ∙ entries-free m (text-from m part (data-of m f i)) (take n (front (entries-of m f i n) es)) (entries-of m f i n) h
+      ap (λ (t : List ℕ). fieldsOf m (text-from m part t) (take n (overwritten (entries-of m f i n) es))) (front-take (data-of m f i) dat n (data-size h))
+      ∙ entries-free m (text-from m part (data-of m f i)) (take n (overwritten (entries-of m f i n) es)) (entries-of m f i n) h
   said-by false h part dat es =
-      ap (λ (t : List ℕ). fieldsOf m t (take n (front (entries-of m f i n) es))) (text-is-part m part (take n (front (data-of m f i) dat)) (data-of m f i) h)
+      ap (λ (t : List ℕ). fieldsOf m t (take n (overwritten (entries-of m f i n) es))) (text-is-part m part (take n (overwritten (data-of m f i) dat)) (data-of m f i) h)
       ∙ ap (fieldsOf m (text-from m part (data-of m f i))) (front-take (entries-of m f i n) es n (entries-size h))
 
   fields-said : (part dat es : List ℕ)
-      → fieldsOf m (text-from m part (take n (front (data-of m f i) dat))) (take n (front (entries-of m f i n) es))
+      → fieldsOf m (text-from m part (take n (overwritten (data-of m f i) dat))) (take n (overwritten (entries-of m f i n) es))
       ≡ fieldsOf m (text-from m part (data-of m f i)) (entries-of m f i n)
   fields-said part dat es = said-by (has-data m) refl part dat es
 
@@ -95,13 +95,13 @@ module _ (m : UniversalNonRealTimeMsg) (f : List ℕ) (i n : ℕ) (size : length
   module _ (d : DeviceID) (from len : ℕ) (dat es : List ℕ) where
     filled-as : (b : Bool) → enough m f i n dat es ≡ b → (r : Reading) (dat′ es′ : List ℕ)
         → r ≡ pick b (reading.Frame d m from len n) (reading.Refused Hold)
-        → dat′ ≡ pick b (front (data-of m f i) dat) dat → es′ ≡ pick b (front (entries-of m f i n) es) es
+        → dat′ ≡ pick b (overwritten (data-of m f i) dat) dat → es′ ≡ pick b (overwritten (entries-of m f i n) es) es
         → Filled r d m from len i n f dat dat′ es es′
     filled-as b e r dat′ es′ p q s =
         record {
           says = p ∙ ap (λ (t : Bool). pick t (reading.Frame d m from len n) (reading.Refused Hold)) (sym e);
-          data-is = q ∙ ap (λ (t : Bool). pick t (front (data-of m f i) dat) dat) (sym e);
-          entries-are = s ∙ ap (λ (t : Bool). pick t (front (entries-of m f i n) es) es) (sym e);
+          data-is = q ∙ ap (λ (t : Bool). pick t (overwritten (data-of m f i) dat) dat) (sym e);
+          entries-are = s ∙ ap (λ (t : Bool). pick t (overwritten (entries-of m f i n) es) es) (sym e);
         }
 
     -- too few places for file data
@@ -117,20 +117,20 @@ module _ (m : UniversalNonRealTimeMsg) (f : List ℕ) (i n : ℕ) (size : length
         (reading.Refused Hold) dat es refl refl refl
 
     -- file data put
-    pub data-put : has-data m ≡ true → n ≤ length dat → (dat′ : List ℕ) → dat′ ≡ front (data-of m f i) dat
+    pub data-put : has-data m ≡ true → n ≤ length dat → (dat′ : List ℕ) → dat′ ≡ overwritten (data-of m f i) dat
         → Filled (reading.Frame d m from len n) d m from len i n f dat dat′ es es
     data-put h l dat′ e =
         filled-as true
         (rw (le-leb (length (data-of m f i)) (length dat) (omega (arith, data-size h)), le-leb (length (entries-of m f i n)) (length es) (omega (arith, ap length (no-entries m f i n h)))))
-        (reading.Frame d m from len n) dat′ es refl e (ap (λ (x : List ℕ). front x es) (sym (no-entries m f i n h)))
+        (reading.Frame d m from len n) dat′ es refl e (ap (λ (x : List ℕ). overwritten x es) (sym (no-entries m f i n h)))
 
     -- entries put
-    pub entries-put : has-data m ≡ false → n ≤ length es → (es′ : List ℕ) → es′ ≡ front (entries-of m f i n) es
+    pub entries-put : has-data m ≡ false → n ≤ length es → (es′ : List ℕ) → es′ ≡ overwritten (entries-of m f i n) es
         → Filled (reading.Frame d m from len n) d m from len i n f dat dat es es′
     entries-put h l es′ e =
         filled-as true
         (rw (le-leb (length (data-of m f i)) (length dat) (omega (arith, ap length (no-data m f i h))), le-leb (length (entries-of m f i n)) (length es) (omega (arith, entries-size h))))
-        (reading.Frame d m from len n) dat es′ refl (ap (λ (x : List ℕ). front x dat) (sym (no-data m f i h))) e
+        (reading.Frame d m from len n) dat es′ refl (ap (λ (x : List ℕ). overwritten x dat) (sym (no-data m f i h))) e
 
 -- ---- the whole: what the fields say is the message that is read, and lent space has its file data and entries
 
@@ -146,7 +146,7 @@ module _ (d : DeviceID) (m : UniversalNonRealTimeMsg) (from len i n : ℕ) (fram
   own-entries = lent-entries f s i n m (text-from m part (data-of m f i))
 
   module _ (starts : from ≡ text-start M) (long : len ≡ length (text M)) where
-    numbers-same : from ∷ len ∷ n ∷ [] ≡ part-and-places-of (given M)
+    numbers-same : from ∷ len ∷ n ∷ [] ≡ text-and-places-of (given M)
     numbers-same =
         let e : n ≡ places M = omega (arith, size, ap length own-data, ap length own-entries) in
         ap₂ (λ (a b : ℕ). a ∷ b ∷ n ∷ []) starts long ∙ ap (λ (c : ℕ). text-start M ∷ length (text M) ∷ c ∷ []) e
@@ -171,21 +171,21 @@ module _ (d : DeviceID) (m : UniversalNonRealTimeMsg) (from len i n : ℕ) (fram
       holds-as dat es = ap₂ (λ (x y : List ℕ). held-unless (leb (length x) (length dat) && leb (length y) (length es)) M) (sym own-data) (sym own-entries)
 
       abbrev Meets : Answer Message → List ℕ → List ℕ → List ℕ → List ℕ → Type 0
-      Meets a dat dat′ es es′ = (said r frame dat′ es′ ≡ a) × (part-and-places r ≡ part-and-places-of a) × (dat′ ≡ data-after a dat) × (es′ ≡ entries-after a es)
+      Meets a dat dat′ es es′ = (said r frame dat′ es′ ≡ a) × (text-and-places r ≡ text-and-places-of a) × (dat′ ≡ data-after a dat) × (es′ ≡ entries-after a es)
 
       met : (t : Bool) (dat dat′ es es′ : List ℕ)
           → r ≡ pick t (reading.Frame d m from len n) (reading.Refused Hold)
-          → dat′ ≡ pick t (front (data-of m f i) dat) dat → es′ ≡ pick t (front (entries-of m f i n) es) es
+          → dat′ ≡ pick t (overwritten (data-of m f i) dat) dat → es′ ≡ pick t (overwritten (entries-of m f i n) es) es
           → Meets (held t) dat dat′ es es′
-      met false dat dat′ es es′ e x y = (ap (λ (q : Reading). said q frame dat′ es′) e, ap part-and-places e, x, y)
+      met false dat dat′ es es′ e x y = (ap (λ (q : Reading). said q frame dat′ es′) e, ap text-and-places e, x, y)
       met true dat dat′ es es′ e x y = (
         ap (λ (q : Reading). said q frame dat′ es′) e
             ∙ ap₂ (λ (u v : List ℕ). said (reading.Frame d m from len n) frame u v) x y
-            ∙ ap (λ (u : List ℕ). given (messageOf d m (text-from m u (take n (front (data-of m f i) dat))) (take n (front (entries-of m f i n) es)))) p
+            ∙ ap (λ (u : List ℕ). given (messageOf d m (text-from m u (take n (overwritten (data-of m f i) dat))) (take n (overwritten (entries-of m f i n) es)))) p
             ∙ ap (λ (u : Fields (headOf m)). given (make d (headOf m) u)) (fields-said m f i n size part dat es),
-        ap part-and-places e ∙ numbers-same,
-        x ∙ ap (λ (u : List ℕ). front u dat) (sym own-data),
-        y ∙ ap (λ (u : List ℕ). front u es) (sym own-entries),
+        ap text-and-places e ∙ numbers-same,
+        x ∙ ap (λ (u : List ℕ). overwritten u dat) (sym own-data),
+        y ∙ ap (λ (u : List ℕ). overwritten u es) (sym own-entries),
       )
 
       pub read-met : (a : Answer Message) (dat dat′ es es′ : List ℕ) → given M ≡ a → Filled r d m from len i n f dat dat′ es es′ → ReadMet r a frame dat dat′ es es′

@@ -38,16 +38,16 @@ T v = v .h .given .0 .1 .1 .1 .0
 opened : (v : tie.After-h) → Opens (opening.Fields (H v) (S v) (E v) (T v)) (inner (frame v)) (readOf (st v .args .kind) (frame v))
 opened v = subst (λ (r : Opening). Opens r (inner (frame v)) (readOf (st v .args .kind) (frame v))) (v .h .given .1) (v .before .before .opening-in .ensures)
 
-read-part-requires : tie.Need-read-part-requires
-read-part-requires c κs = opened (c .before .before .before) .part
+read-fields-requires : tie.Need-read-fields-requires
+read-fields-requires c κs = opened (c .before .before .before) .part
 
 returns : tie.Need-returns
 returns c = let l = c .before .before .before .before in
     let v = l .before .before .before .before in
     let s = st v in
     subst
-    (λ (a : Answer Message). ReadMet (l .read-part .result) a (frame v) (now (s .args .«data»)) (l .read-part .last .1 .1 .1 .1 .1 .0) (now (s .args .entries)) (l .read-part .last .1 .1 .1 .1 .1 .1 .0))
-    (opened v .says) (l .read-part .ensures)
+    (λ (a : Answer Message). ReadMet (l .read-fields .result) a (frame v) (now (s .args .«data»)) (l .read-fields .last .1 .1 .1 .1 .1 .0) (now (s .args .entries)) (l .read-fields .last .1 .1 .1 .1 .1 .1 .0))
+    (opened v .says) (l .read-fields .ensures)
 
 returns-2 : tie.Need-returns-2
 returns-2 c = let v = c .before in
@@ -62,7 +62,7 @@ read-spec =
     (tie.spec
     (λ c κs. search needs)
     (λ c. search needs)
-    read-part-requires
+    read-fields-requires
     (λ c. search needs)
     (λ c. search needs)
     (λ c. search needs)

@@ -6,7 +6,7 @@ use native.Mathlib.Omega.{arith}
 use lib.ListN.{length}
 use borrow.Author.Tests.{lt-ltb, le-ltb}
 use Rattle.util.specs.Limits.{most-stream}
-use Rattle.util.specs.Splice.{front}
+use Rattle.util.specs.Splice.{overwritten}
 use Rattle.util.specs.declared.refusal.Refusal.the-variants.{Stream, Index}
 use Rattle.messages.specs.declared.«file_reference».Kind.{Kind}
 use Rattle.messages.specs.Walk.{frames}
@@ -24,7 +24,7 @@ module _ (k : Kind) (s ix : List ℕ) where
   unfolding answer after
   too-many h m = (simp (le-ltb _ _ h, lt-ltb _ _ m), simp (le-ltb _ _ h, lt-ltb _ _ m))
 
-  pub enough : length s ≤ most-stream → how-many k s ≤ length ix / 2 → (Frames (how-many k s) ≡ answer k s ix) × (front (flat (frames k s)) ix ≡ after k s ix)
+  pub enough : length s ≤ most-stream → how-many k s ≤ length ix / 2 → (Frames (how-many k s) ≡ answer k s ix) × (overwritten (flat (frames k s)) ix ≡ after k s ix)
   unfolding answer after
   enough h m = (simp (le-ltb _ _ h, le-ltb _ _ m), simp (le-ltb _ _ h, le-ltb _ _ m))
 

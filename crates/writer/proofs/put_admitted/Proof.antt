@@ -6,7 +6,7 @@ use Prim.Native.Nat.{ℕ}
 use lib.ListN.{length}
 use denote.Ref.{now}
 use borrow.Author.Needs.{needs}
-use Rattle.util.specs.Splice.{front}
+use Rattle.util.specs.Splice.{overwritten}
 use Rattle.write_fronts.specs.Fronts.{frontOf}
 use Rattle.write_lists.specs.Parts.{partOf}
 use Rattle.writer.specs.Frames.{frame-of, wire}
@@ -36,7 +36,7 @@ returns c =
     let p = c .before .before in
     let h = p .before .before in
     let s = st h in
-    p .put-frame .ensures ∙ ap (λ (l : List ℕ). front l (now (s .args .out))) (frame-is h)
+    p .put-frame .ensures ∙ ap (λ (l : List ℕ). overwritten l (now (s .args .out))) (frame-is h)
 
 pub put-admitted-spec : {M : Type 1} → statement M
 put-admitted-spec = tie.close (tie.spec (λ c κs. search needs) put-frame-requires (λ c. search needs) returns)

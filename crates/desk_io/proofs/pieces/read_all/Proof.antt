@@ -1,11 +1,19 @@
 -- `desk_io::pieces::read_all` meets its contract. The invariant: what is read is within the buffer, which keeps its length.
 -- Assumes nothing.
 use borrow.Author.Needs.{needs}
-use mathlib.Core.Path.{_≡_}
-use Prim.Native.Nat.{_≤_, _-_}
+use borrow.Author.Tests.{eqb-false}
+use mathlib.Core.Path.{_≡_, refl, sym, _∙_}
+use mathlib.Core.Bool.{false}
+use Prim.Native.Nat.{ℕ, zero, suc, _≤_, _-_}
+use native.Mathlib.Omega.{arith}
+use lib.Dec.{eqb}
 use lib.ListN.{length}
 use Rattle.desk_io.proofs.pieces.read_all.Statement.{statement}
 use Rattle.desk_io.proofs.pieces.read_all.Tie as tie
+
+not-zero : (n : ℕ) → eqb n 0 ≡ false → 1 ≤ n
+not-zero zero e = absurd (eqb-false 0 0 e refl)
+not-zero (suc n) e = omega arith
 
 abbrev Inv-loop : tie.InvT-loop
 Inv-loop fd room₀ n₀ room n = (n ≤ length room₀) × (length room ≡ length room₀)
@@ -16,17 +24,17 @@ abbrev μ-loop : tie.MeasureT-loop
 loop-holds : tie.Need-loop-holds Inv-loop μ-loop
 loop-holds c = search needs
 
-sub-read-part : tie.Need-sub-read-part Inv-loop μ-loop
-sub-read-part c = search needs
+sub-read-once : tie.Need-sub-read-once Inv-loop μ-loop
+sub-read-once c = search needs
 
-part-read-part-start : tie.Need-part-read-part-start Inv-loop μ-loop
-part-read-part-start c = search needs
+part-read-once-start : tie.Need-part-read-once-start Inv-loop μ-loop
+part-read-once-start c = search needs
 
-part-read-part-end : tie.Need-part-read-part-end Inv-loop μ-loop
-part-read-part-end c = search needs
+part-read-once-end : tie.Need-part-read-once-end Inv-loop μ-loop
+part-read-once-end c = search needs
 
-read-part-requires : tie.Need-read-part-requires Inv-loop μ-loop
-read-part-requires c κs = search needs
+read-once-requires : tie.Need-read-once-requires Inv-loop μ-loop
+read-once-requires c κs = search needs
 
 same-length : tie.Need-same-length Inv-loop μ-loop
 same-length c = search needs
@@ -34,11 +42,14 @@ same-length c = search needs
 returns : tie.Need-returns Inv-loop μ-loop
 returns c = search needs
 
+is-end-requires : tie.Need-is-end-requires Inv-loop μ-loop
+is-end-requires c κs = search needs
+
 add-n : tie.Need-add-n Inv-loop μ-loop
 add-n c = search needs
 
 loop-less : tie.Need-loop-less Inv-loop μ-loop
-loop-less c = search needs
+loop-less c = search (needs, not-zero (c .before .before .before .before .before .before .read-once .result .count) (sym (c .before .before .is-end .ensures) ∙ c .before .if2 .left))
 
 loop-again : tie.Need-loop-again Inv-loop μ-loop
 loop-again c = search needs
@@ -62,12 +73,13 @@ read-all-spec =
     Inv-loop
     μ-loop
     loop-holds
-    sub-read-part
-    part-read-part-start
-    part-read-part-end
-    read-part-requires
+    sub-read-once
+    part-read-once-start
+    part-read-once-end
+    read-once-requires
     same-length
     returns
+    is-end-requires
     add-n
     loop-less
     loop-again

@@ -9,7 +9,7 @@ use denote.Ref.{now}
 use borrow.Author.Needs.{needs}
 use borrow.Rule.Slice.PartMut.{putMid}
 use Rattle.util.specs.Checksum.{checksum}
-use Rattle.util.specs.Splice.{front}
+use Rattle.util.specs.Splice.{overwritten}
 use Rattle.util.proofs.Laws.Splice.{Run, run-none, run-set, run-part, run-room, run-length}
 use Rattle.writer.specs.Frames.{wire}
 use Rattle.writer.proofs.Laws.Sums.{run-body}
@@ -110,7 +110,7 @@ returns : tie.Need-returns
 unfolding wire
 returns c =
     r5 c .is
-    ∙ ap (λ (v : ℕ). front ((0xF0 ∷ H (s4 c) ++ D (s4 c)) ++ (v ∷ []) ++ (0xF7 ∷ [])) (x0 (s4 c))) (sum-is c)
+    ∙ ap (λ (v : ℕ). overwritten ((0xF0 ∷ H (s4 c) ++ D (s4 c)) ++ (v ∷ []) ++ (0xF7 ∷ [])) (x0 (s4 c))) (sum-is c)
 
 pub put-scale-dump-2-spec : {M : Type 1} → statement M
 put-scale-dump-2-spec =

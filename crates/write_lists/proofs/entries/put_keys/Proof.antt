@@ -7,7 +7,7 @@ use native.Mathlib.Omega.{arith}
 use lib.ListN.{length, take, drop, getD}
 use denote.Ref.{now}
 use borrow.Author.Needs.{needs}
-use Rattle.util.specs.Splice.{front, splice}
+use Rattle.util.specs.Splice.{overwritten, splice}
 use Rattle.util.proofs.Laws.Splice.{item-turn, item-done, tail-room}
 use Rattle.messages.specs.Entries.{tuning-of}
 use Rattle.messages.specs.Fields.{tuning}
@@ -59,7 +59,7 @@ loop-again c =
     let e = ap (λ (n : ℕ). written tuning (tuning-of n)) (c .before .before .before .before .key-at .ensures) in
     let t =
     item-turn (l .out) (c .before .before .put-tuning-entry .last .0) (written tuning (tuning-of (getD (now (s .args .s)) (l .i) (l .i * 65536)))) (keys-from (now (s .args .s)) (l .i + 1)) _ (l .at) 3 refl
-    (omega (arith, l .inv, s .pre)) (c .before .before .put-tuning-entry .ensures ∙ ap (λ (x : List ℕ). front x (take (length (l .out) - l .at) (drop (l .at) (l .out)))) e)
+    (omega (arith, l .inv, s .pre)) (c .before .before .put-tuning-entry .ensures ∙ ap (λ (x : List ℕ). overwritten x (take (length (l .out) - l .at) (drop (l .at) (l .out)))) e)
     (ap (splice (l .out) (l .at)) (sym (keys-turn (now (s .args .s)) (l .i) h)) ∙ l .inv .3) in
     (omega arith, omega (arith, l .inv .1), t .0 ∙ l .inv .2, t .1)
 

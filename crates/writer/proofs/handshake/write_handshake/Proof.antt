@@ -7,7 +7,7 @@ use native.Mathlib.Omega.{arith}
 use lib.ListN.{length, take, drop}
 use denote.Ref.{now}
 use borrow.Author.Needs.{needs}
-use Rattle.util.specs.Splice.{front}
+use Rattle.util.specs.Splice.{overwritten}
 use Rattle.util.proofs.Laws.Splice.{tail-room, part-put}
 use Rattle.messages.specs.Fields.{device-byte}
 use Rattle.writer.specs.Handshakes.{handshake-frame}
@@ -48,7 +48,7 @@ returns-3 c =
     (sym k)
     (part-put (now (s .args .out)) (p .put-handshake .last .0) (F s) (s .args .place)
     (p .put-handshake .ensures
-    ∙ ap (λ (v : ℕ). front (handshake-frame v (s .args .a) (s .args .n)) (take (length (now (s .args .out)) - s .args .place) (drop (s .args .place) (now (s .args .out)))))
+    ∙ ap (λ (v : ℕ). overwritten (handshake-frame v (s .args .a) (s .args .n)) (take (length (now (s .args .out)) - s .args .place) (drop (s .args .place) (now (s .args .out)))))
     (d .device-byte .ensures)))
 
 pub write-handshake-spec : {M : Type 1} → statement M

@@ -1,4 +1,4 @@
--- A value is told where its number says it.
+-- A value is representable where its number says it.
 -- Assumes nothing.
 use mathlib.Core.Path.{_≡_, refl}
 use mathlib.Core.Bool.{Bool, true, false}
@@ -21,7 +21,7 @@ use Rattle.messages.specs.declared.«sample_dump».LoopNumber.the-variants.{Loo
 use Rattle.messages.specs.declared.«file_dump».FileType.{FileType}
 use Rattle.messages.specs.declared.«file_dump».FileType.the-variants.{MIDI, MIEX, ESEQ, TEXT, BIN, MAC, Custom}
 use Rattle.numbers_of_message.specs.Numbers.{number}
-use Rattle.numbers_of_message.specs.Told.{Within, Told}
+use Rattle.numbers_of_message.specs.Representable.{Within, Representable}
 
 -- ---- numbers below a limit
 
@@ -85,7 +85,7 @@ module _ (a b c d : ℕ) where
   )
 
   spelled-only : (x : ℕ) (o : Option FileType) → x ≡ file-number-of (Custom a b c d) → x < 2 ^ 32 → numbered file-number-of named-types x ≡ o
-      → or-else o (Custom (x / 2 ^ 24) (x / 2 ^ 16 % 256) (x / 2 ^ 8 % 256) (x % 256)) ≡ Custom a b c d → Told type.FileType (Custom a b c d)
+      → or-else o (Custom (x / 2 ^ 24) (x / 2 ^ 16 % 256) (x / 2 ^ 8 % 256) (x % 256)) ≡ Custom a b c d → Representable type.FileType (Custom a b c d)
   spelled-only x (some t) e l g h = absurd (numbered-all NotCustom file-number-of named-types x t no-custom g h)
   spelled-only x none e l g h =
       let ea : x / 2 ^ 24 ≡ a = cc in
@@ -95,41 +95,41 @@ module _ (a b c d : ℕ) where
       ((omega arith, omega arith, omega arith, omega arith), rw e at g)
 
   custom-only : (x : ℕ) (t : Bool) → x ≡ file-number-of (Custom a b c d) → ltb x (2 ^ 32) ≡ t → map-option spelled (pick t (some x) none) ≡ some (Custom a b c d)
-      → Told type.FileType (Custom a b c d)
+      → Representable type.FileType (Custom a b c d)
   custom-only x true e l h = spelled-only x (numbered file-number-of named-types x) e (ltb-true x (2 ^ 32) l) refl (cc)
   custom-only x false e l h = absurd (let q : _≡_ {A = ℕ} 0 1 = cc in omega arith)
 
 -- ---- each type
 
-pub told-only : (t : NumberType) (v : Value t) → value t (number t v) ≡ some v → Told t v
-told-only type.U8 n h = below-only (2 ^ 8) n (ltb n (2 ^ 8)) refl h
-told-only type.U16 n h = below-only (2 ^ 16) n (ltb n (2 ^ 16)) refl h
-told-only type.U32 n h = below-only (2 ^ 32) n (ltb n (2 ^ 32)) refl h
-told-only type.U64 n h = tt
-told-only type.I8 z h = signed-only (2 ^ 7) z _ (ltb (signed-number-of z) (2 ^ 7)) (ltb (signed-number-of z) (2 ^ 64 - 2 ^ 7)) (lit≤ tt) refl refl h
-told-only type.I16 z h = signed-only (2 ^ 15) z _ (ltb (signed-number-of z) (2 ^ 15)) (ltb (signed-number-of z) (2 ^ 64 - 2 ^ 15)) (lit≤ tt) refl refl h
-told-only type.Flag b h = tt
-told-only type.Device (Device n) h = apart-only (2 ^ 8) n AllCall Device (eqb n 256) (ltb n (2 ^ 8)) refl (λ e. let q : _≡_ {A = ℕ} 0 1 = cc in omega arith) h
-told-only type.Device AllCall h = tt
-told-only type.RequestedLoop (Loop n) h = apart-only (2 ^ 16) n RequestAll Loop (eqb n 65536) (ltb n (2 ^ 16)) refl (λ e. let q : _≡_ {A = ℕ} 0 1 = cc in omega arith) h
-told-only type.RequestedLoop RequestAll h = tt
-told-only type.RequestedLoop DeleteAll h = let q : _≡_ {A = ℕ} 0 1 = cc in omega arith
-told-only type.TransmittedLoop (Loop n) h = apart-only (2 ^ 16) n DeleteAll Loop (eqb n 65536) (ltb n (2 ^ 16)) refl (λ e. let q : _≡_ {A = ℕ} 0 1 = cc in omega arith) h
-told-only type.TransmittedLoop RequestAll h = let q : _≡_ {A = ℕ} 0 1 = cc in omega arith
-told-only type.TransmittedLoop DeleteAll h = tt
-told-only type.LoopType t h = tt
-told-only type.ExtendedLoopType t h = tt
-told-only type.FileType MIDI h = tt
-told-only type.FileType MIEX h = tt
-told-only type.FileType ESEQ h = tt
-told-only type.FileType TEXT h = tt
-told-only type.FileType BIN h = tt
-told-only type.FileType MAC h = tt
-told-only type.FileType (Custom a b c d) h = custom-only a b c d (file-number-of (Custom a b c d)) (ltb (file-number-of (Custom a b c d)) (2 ^ 32)) refl refl h
-told-only type.ReferenceType t h = tt
-told-only type.BankOrNone (Bank n) h = apart-only (2 ^ 8) n NoBank Bank (eqb n 256) (ltb n (2 ^ 8)) refl (λ e. let q : _≡_ {A = ℕ} 0 1 = cc in omega arith) h
-told-only type.BankOrNone NoBank h = tt
-told-only type.Zero u h = tt
-told-only type.One u h = tt
-told-only type.Two u h = tt
-told-only type.Three u h = tt
+pub representable-only : (t : NumberType) (v : Value t) → value t (number t v) ≡ some v → Representable t v
+representable-only type.U8 n h = below-only (2 ^ 8) n (ltb n (2 ^ 8)) refl h
+representable-only type.U16 n h = below-only (2 ^ 16) n (ltb n (2 ^ 16)) refl h
+representable-only type.U32 n h = below-only (2 ^ 32) n (ltb n (2 ^ 32)) refl h
+representable-only type.U64 n h = tt
+representable-only type.I8 z h = signed-only (2 ^ 7) z _ (ltb (signed-number-of z) (2 ^ 7)) (ltb (signed-number-of z) (2 ^ 64 - 2 ^ 7)) (lit≤ tt) refl refl h
+representable-only type.I16 z h = signed-only (2 ^ 15) z _ (ltb (signed-number-of z) (2 ^ 15)) (ltb (signed-number-of z) (2 ^ 64 - 2 ^ 15)) (lit≤ tt) refl refl h
+representable-only type.Flag b h = tt
+representable-only type.Device (Device n) h = apart-only (2 ^ 8) n AllCall Device (eqb n 256) (ltb n (2 ^ 8)) refl (λ e. let q : _≡_ {A = ℕ} 0 1 = cc in omega arith) h
+representable-only type.Device AllCall h = tt
+representable-only type.RequestedLoop (Loop n) h = apart-only (2 ^ 16) n RequestAll Loop (eqb n 65536) (ltb n (2 ^ 16)) refl (λ e. let q : _≡_ {A = ℕ} 0 1 = cc in omega arith) h
+representable-only type.RequestedLoop RequestAll h = tt
+representable-only type.RequestedLoop DeleteAll h = let q : _≡_ {A = ℕ} 0 1 = cc in omega arith
+representable-only type.TransmittedLoop (Loop n) h = apart-only (2 ^ 16) n DeleteAll Loop (eqb n 65536) (ltb n (2 ^ 16)) refl (λ e. let q : _≡_ {A = ℕ} 0 1 = cc in omega arith) h
+representable-only type.TransmittedLoop RequestAll h = let q : _≡_ {A = ℕ} 0 1 = cc in omega arith
+representable-only type.TransmittedLoop DeleteAll h = tt
+representable-only type.LoopType t h = tt
+representable-only type.ExtendedLoopType t h = tt
+representable-only type.FileType MIDI h = tt
+representable-only type.FileType MIEX h = tt
+representable-only type.FileType ESEQ h = tt
+representable-only type.FileType TEXT h = tt
+representable-only type.FileType BIN h = tt
+representable-only type.FileType MAC h = tt
+representable-only type.FileType (Custom a b c d) h = custom-only a b c d (file-number-of (Custom a b c d)) (ltb (file-number-of (Custom a b c d)) (2 ^ 32)) refl refl h
+representable-only type.ReferenceType t h = tt
+representable-only type.BankOrNone (Bank n) h = apart-only (2 ^ 8) n NoBank Bank (eqb n 256) (ltb n (2 ^ 8)) refl (λ e. let q : _≡_ {A = ℕ} 0 1 = cc in omega arith) h
+representable-only type.BankOrNone NoBank h = tt
+representable-only type.Zero u h = tt
+representable-only type.One u h = tt
+representable-only type.Two u h = tt
+representable-only type.Three u h = tt

@@ -3,10 +3,7 @@ use super::Number;
 use super::cents::Decimals;
 ghost use mathlib.Core.Path.{_≡_};
 ghost use Prim.Native.Nat.{_≤_};
-ghost use Rattle.desk_decimals.specs.Parts.{Nearest, entry-of};
-
-// No tuning, as an entry.
-pub const NO_TUNING: u64 = 16777216;
+ghost use Rattle.desk_decimals.specs.Fractions.{Nearest, entry-of, highest, tuning-entry};
 
 // The highest pitch, in 16,384ths of a semitone: the part above it is written as no tuning.
 const HIGHEST: u64 = 2097150;
@@ -29,14 +26,16 @@ pub fn nearest_8192(amount: u64) -> u64
 
 // The entry of a pitch.
 fn entry(pitch: u64) -> u64
-    requires { ⌜ pitch ≤ 2097150 ⌝ }
+    requires { ⌜ pitch ≤ highest ⌝ }
     ensures { λ r. ⌜ r ≡ entry-of pitch ⌝ }
 {
     pitch / 16384 * 65536 + pitch % 16384
 }
 
 // The entry of a pitch, where there is such a tuning.
-fn in_range(pitch: u64) -> Number {
+fn in_range(pitch: u64) -> Number
+    ensures { λ r. ⌜ r ≡ tuning-entry pitch ⌝ }
+{
     if pitch <= HIGHEST {
         return Number::Is(entry(pitch));
     }
