@@ -27,13 +27,13 @@ use Rattle.writer.proofs.Written as R
 use Rattle.writer.proofs.Written.Laws as R′
 use Rattle.write_maps.proofs.lent as lent
 use Rattle.write_maps.proofs.lent.Symbol as lent-def
-use Rattle.write_maps.proofs.lent.Symbol.{name as #maps·lent}
+use Rattle.write_maps.proofs.lent.Symbol.{name as #write-maps·lent}
 use Rattle.write_maps.proofs.lent.Met as lent-thm
 use Rattle.write_maps.proofs.write_maps as wm
 use Rattle.write_maps.proofs.write_maps.Symbol as wm-def
-use Rattle.write_maps.proofs.write_maps.Symbol.{name as #maps·write-maps}
+use Rattle.write_maps.proofs.write_maps.Symbol.{name as #write-maps·write-maps}
 use Rattle.write_maps.proofs.write_maps.Met as wm-thm
-use Rattle.write_maps.proofs.write_first.Key.{name as #maps·write-first}
+use Rattle.write_maps.proofs.write_first.Key.{name as #write-maps·write-first}
 use Rattle.write_maps.proofs.write_first as wf
 use Rattle.write_maps.proofs.write_first.Statement as stated
 use Rattle.write_maps.proofs.write_first.Code as code
@@ -161,7 +161,7 @@ module _ {M : Type 1} (𝓤 : URA M) (H : Heap 𝓤) (A : Atoms 𝓤) (W : Given
       owned ! All (Is All) (array-makes 𝓤 H A W T.the-row (LL.makes T.the-type T′.the-plain 𝓤 H A) 130) ys _ is-all $ fjoin ! $ move ! (1 ∷ 0 ∷ []) $ fjoin ! $
       owned ! F.the-row (Is F.the-row) (EL.makes F.the-type F′.the-plain 𝓤 H A) m _ is-message $ fjoin ! $ owned ! D.the-row (Is D.the-row) (EL.makes D.the-type D′.the-plain 𝓤 H A) d _ is-device $ fjoin ! $ done !
 
-  module _ (𝓣 : Tables 𝓤 H) (known-lent : Triple 𝓤 (𝓣 .C #maps·lent) (Lent 𝓤 H A mem run)) (known-maps : Triple 𝓤 (𝓣 .C #maps·write-maps) (WriteMaps 𝓤 H A mem run)) where
+  module _ (𝓣 : Tables 𝓤 H) (known-lent : Triple 𝓤 (𝓣 .C #write-maps·lent) (Lent 𝓤 H A mem run)) (known-maps : Triple 𝓤 (𝓣 .C #write-maps·write-maps) (WriteMaps 𝓤 H A mem run)) where
     walk : ent 𝓤 (onEntry 𝓤 H A wf.signature (κᵤ, (κ, tt)) (qᵤ, (q, tt)) x vs) (WpFn 𝓤 H (𝓣 .C) (𝓣 .Λ) code.function (dv ∷ mv ∷ uv ∷ v ∷ vint w64 n ∷ zv ∷ vint w64 p ∷ []) Post)
     unfolding partOf
     walk =
@@ -213,7 +213,7 @@ module _ {M : Type 1} (𝓤 : URA M) (H : Heap 𝓤) (A : Atoms 𝓤) (W : Given
         move ! (40 ∷ 41 ∷ []) $ free1 ! $ move ! (38 ∷ 39 ∷ []) $ free1 ! $ move ! (36 ∷ 37 ∷ []) $ free1 ! $ move ! (34 ∷ 35 ∷ []) $ free1 ! $ move ! (32 ∷ 33 ∷ []) $ free1 ! $ move ! (30 ∷ 31 ∷ []) $ free1 ! $ move ! (28 ∷ 29 ∷ []) $ free1 ! $ move ! (26 ∷ 27 ∷ []) $ free1 ! $ move ! (0 ∷ 25 ∷ []) $ free1 ! $ move ! (22 ∷ 23 ∷ []) $ free1 ! $ move ! (20 ∷ 21 ∷ []) $ free1 ! $ move ! (18 ∷ 19 ∷ []) $ free1 ! $ move ! (16 ∷ 17 ∷ []) $ free1 ! $ move ! (14 ∷ 15 ∷ []) $ free1 ! $ free0 ! $
         keep ! (1 ∷ 0 ∷ 9 ∷ 3 ∷ 2 ∷ []) $ by ! (exits r w (ws .1 .1 .1 .1 .0) (subst (λ (ms : List SoundFileMap). Wrote ms r (ws .1 .1 .1 .1 .0)) (first-lent ys n all-long) e) l)))))))))))))))))))))))))))))
 
-module _ {M : Type 1} (𝓤 : URA M) (H : Heap 𝓤) (A : Atoms 𝓤) (W : Given 𝓤 H A) (mem : Memory → SProp 𝓤) (run : Routine → Fun 𝓤) (𝓣 : Tables 𝓤 H) (known-lent : Triple 𝓤 (𝓣 .C #maps·lent) (Lent 𝓤 H A mem run)) (known-maps : Triple 𝓤 (𝓣 .C #maps·write-maps) (WriteMaps 𝓤 H A mem run)) where
+module _ {M : Type 1} (𝓤 : URA M) (H : Heap 𝓤) (A : Atoms 𝓤) (W : Given 𝓤 H A) (mem : Memory → SProp 𝓤) (run : Routine → Fun 𝓤) (𝓣 : Tables 𝓤 H) (known-lent : Triple 𝓤 (𝓣 .C #write-maps·lent) (Lent 𝓤 H A mem run)) (known-maps : Triple 𝓤 (𝓣 .C #write-maps·write-maps) (WriteMaps 𝓤 H A mem run)) where
   walks : Walks 𝓤 H A wf.ended stayed (WpFn 𝓤 H (𝓣 .C) (𝓣 .Λ) code.function) (wf.clauses 𝓤 H A mem run)
   walks = walked 𝓤 H A wf.ended stayed (wf.clauses 𝓤 H A mem run) (WpFn 𝓤 H (𝓣 .C) (𝓣 .Λ) code.function)
       (λ κs. (EL.vals D.the-type D′.the-laws, (EL.vals F.the-type F′.the-laws, (slice-vals, (array-vals (LL.vals T.the-type T′.the-laws), (uint-vals w64, (slice-vals, (uint-vals w64, tt))))))))
@@ -232,7 +232,7 @@ pub write-first-spec : {M : Type 1} → stated.statement M
 unfolding code.routine tablesOf
 write-first-spec 𝓤 H 𝓜 𝓖 𝓡 =
     entered 𝓤 H (tripleOf 𝓤 H (𝓖 .A) wf.signature (wf.spec 𝓤 H (𝓖 .A) (𝓜 .mem) (𝓡 .run)))
-    (tables 𝓤 H 𝓜 𝓡 code.env .C) (tables 𝓤 H 𝓜 𝓡 code.env .Λ) #maps·write-first code.function (code.unfolded 𝓤 H 𝓜 𝓡)
+    (tables 𝓤 H 𝓜 𝓡 code.env .C) (tables 𝓤 H 𝓜 𝓡 code.env .Λ) #write-maps·write-first code.function (code.unfolded 𝓤 H 𝓜 𝓡)
     (meets 𝓤 H (𝓖 .A) (givenOf 𝓤 H 𝓜 𝓖) (𝓜 .mem) (𝓡 .run) (tablesOf 𝓤 H 𝓜 (tables 𝓤 H 𝓜 𝓡 code.env))
-    (cited 𝓤 H (Lent 𝓤 H (𝓖 .A) (𝓜 .mem) (𝓡 .run)) 𝓜 𝓡 code.env #maps·lent lent-def.routine code.calls-maps·lent (lent-thm.met 𝓤 H 𝓜 𝓖 𝓡))
-    (cited 𝓤 H (WriteMaps 𝓤 H (𝓖 .A) (𝓜 .mem) (𝓡 .run)) 𝓜 𝓡 code.env #maps·write-maps wm-def.routine code.calls-maps·write-maps (wm-thm.met 𝓤 H 𝓜 𝓖 𝓡)))
+    (cited 𝓤 H (Lent 𝓤 H (𝓖 .A) (𝓜 .mem) (𝓡 .run)) 𝓜 𝓡 code.env #write-maps·lent lent-def.routine code.calls-write-maps·lent (lent-thm.met 𝓤 H 𝓜 𝓖 𝓡))
+    (cited 𝓤 H (WriteMaps 𝓤 H (𝓖 .A) (𝓜 .mem) (𝓡 .run)) 𝓜 𝓡 code.env #write-maps·write-maps wm-def.routine code.calls-write-maps·write-maps (wm-thm.met 𝓤 H 𝓜 𝓖 𝓡)))

@@ -32,21 +32,21 @@ use Rattle.writer.proofs.Written as R
 use Rattle.writer.proofs.Written.Laws as R′
 use Rattle.write_maps.proofs.count as count
 use Rattle.write_maps.proofs.count.Symbol as count-def
-use Rattle.write_maps.proofs.count.Symbol.{name as #maps·count}
+use Rattle.write_maps.proofs.count.Symbol.{name as #write-maps·count}
 use Rattle.write_maps.proofs.count.Met as count-thm
 use Rattle.write_maps.proofs.no_entries as no-entries
 use Rattle.write_maps.proofs.no_entries.Symbol as no-entries-def
-use Rattle.write_maps.proofs.no_entries.Symbol.{name as #maps·no-entries}
+use Rattle.write_maps.proofs.no_entries.Symbol.{name as #write-maps·no-entries}
 use Rattle.write_maps.proofs.no_entries.Met as no-entries-thm
 use Rattle.write_maps.proofs.entry_of as entry-of
 use Rattle.write_maps.proofs.entry_of.Symbol as entry-of-def
-use Rattle.write_maps.proofs.entry_of.Symbol.{name as #maps·entry-of}
+use Rattle.write_maps.proofs.entry_of.Symbol.{name as #write-maps·entry-of}
 use Rattle.write_maps.proofs.entry_of.Met as entry-of-thm
 use Rattle.write_maps.proofs.write_entries as write-entries
 use Rattle.write_maps.proofs.write_entries.Symbol as write-entries-def
-use Rattle.write_maps.proofs.write_entries.Symbol.{name as #maps·write-entries}
+use Rattle.write_maps.proofs.write_entries.Symbol.{name as #write-maps·write-entries}
 use Rattle.write_maps.proofs.write_entries.Met as write-entries-thm
-use Rattle.write_maps.proofs.write_maps.Key.{name as #maps·write-maps}
+use Rattle.write_maps.proofs.write_maps.Key.{name as #write-maps·write-maps}
 use Rattle.write_maps.proofs.write_maps as wm
 use Rattle.write_maps.proofs.write_maps.Statement as stated
 use Rattle.write_maps.proofs.write_maps.Code as code
@@ -224,8 +224,8 @@ module _ {M : Type 1} (𝓤 : URA M) (H : Heap 𝓤) (A : Atoms 𝓤) (W : Given
       let c : records-frame d m us (map map-of (take n (u .1))) ≡ records-frame d m us ys = all-held d m us ys (u .1) (rw e at (u .4)) in
       (f .0 ∙ ap (λ (a : Answer (List ℕ)). written-at a (length zs) p) c, f .1 ∙ ap (λ (a : Answer (List ℕ)). output-after a zs p) c)
 
-  module _ (𝓣 : Tables 𝓤 H) (known-count : Triple 𝓤 (𝓣 .C #maps·count) (Count 𝓤 H A mem run)) (known-none : Triple 𝓤 (𝓣 .C #maps·no-entries) (NoEntries 𝓤 H A mem run))
-      (known-entry : Triple 𝓤 (𝓣 .C #maps·entry-of) (EntryOf 𝓤 H A mem run)) (known-write : Triple 𝓤 (𝓣 .C #maps·write-entries) (WriteEntries 𝓤 H A mem run)) where
+  module _ (𝓣 : Tables 𝓤 H) (known-count : Triple 𝓤 (𝓣 .C #write-maps·count) (Count 𝓤 H A mem run)) (known-none : Triple 𝓤 (𝓣 .C #write-maps·no-entries) (NoEntries 𝓤 H A mem run))
+      (known-entry : Triple 𝓤 (𝓣 .C #write-maps·entry-of) (EntryOf 𝓤 H A mem run)) (known-write : Triple 𝓤 (𝓣 .C #write-maps·write-entries) (WriteEntries 𝓤 H A mem run)) where
     module _ (l₀ l₁ l₂ l₃ l₄ l₅ l₆ l₇ l₈ l₉ l₁₀ l₁₁ l₁₂ l₁₃ l₁₄ l₁₅ l₁₆ l₁₇ l₁₈ l₁₉ l₂₀ l₂₁ : ℕ) where
       abbrev En : Env 𝓤 H
       En = (R′.mir, l₀) ∷ (D′.mir, l₁) ∷ (F′.mir, l₂) ∷ (urlTy, l₃) ∷ (listTy, l₄) ∷ (outTy, l₅) ∷ (word, l₆) ∷ (word, l₇) ∷ (heldTy, l₈) ∷ (word, l₉) ∷ (word, l₁₀) ∷ (heldTy, l₁₁) ∷ (tyBool, l₁₂) ∷ (word, l₁₃) ∷ (word, l₁₄) ∷ (tyPtr, l₁₅) ∷ (T′.mir, l₁₆) ∷ (word, l₁₇) ∷ (tyPtr, l₁₈) ∷ (tyPtr, l₁₉) ∷ (tyRef erased mut byte, l₂₀) ∷ (lentTy, l₂₁) ∷ []
@@ -351,8 +351,8 @@ module _ {M : Type 1} (𝓤 : URA M) (H : Heap 𝓤) (A : Atoms 𝓤) (W : Given
         -- [Mut; place's; Shr; Url; m's; device's; out's token; true; the list's token; the URL's token; the row; _21; …]
         keep ! (8 ∷ 6 ∷ 2 ∷ 0 ∷ 11 ∷ 12 ∷ 13 ∷ 14 ∷ 15 ∷ 16 ∷ 17 ∷ 18 ∷ 19 ∷ 20 ∷ 21 ∷ 22 ∷ 23 ∷ 24 ∷ 25 ∷ 26 ∷ 27 ∷ 28 ∷ 29 ∷ 30 ∷ 31 ∷ 32 ∷ 33 ∷ 34 ∷ 35 ∷ 36 ∷ 10 ∷ 37 ∷ 38 ∷ 39 ∷ 40 ∷ 41 ∷ 42 ∷ 43 ∷ 44 ∷ 45 ∷ 46 ∷ 47 ∷ 48 ∷ 49 ∷ 50 ∷ 51 ∷ 52 ∷ 53 ∷ 3 ∷ 9 ∷ []) $ loop-runs l₀ l₁ l₂ l₃ l₄ l₅ l₆ l₇ l₈ l₉ l₁₀ l₁₁ l₁₂ l₁₃ l₁₄ l₁₅ l₁₆ l₁₇ l₁₈ l₁₉ l₂₀ l₂₁ es (held .1 .0 .1))))))))))))))))))))))))))))))
 
-module _ {M : Type 1} (𝓤 : URA M) (H : Heap 𝓤) (A : Atoms 𝓤) (W : Given 𝓤 H A) (mem : Memory → SProp 𝓤) (run : Routine → Fun 𝓤) (𝓣 : Tables 𝓤 H) (known-count : Triple 𝓤 (𝓣 .C #maps·count) (Count 𝓤 H A mem run)) (known-none : Triple 𝓤 (𝓣 .C #maps·no-entries) (NoEntries 𝓤 H A mem run))
-    (known-entry : Triple 𝓤 (𝓣 .C #maps·entry-of) (EntryOf 𝓤 H A mem run)) (known-write : Triple 𝓤 (𝓣 .C #maps·write-entries) (WriteEntries 𝓤 H A mem run)) where
+module _ {M : Type 1} (𝓤 : URA M) (H : Heap 𝓤) (A : Atoms 𝓤) (W : Given 𝓤 H A) (mem : Memory → SProp 𝓤) (run : Routine → Fun 𝓤) (𝓣 : Tables 𝓤 H) (known-count : Triple 𝓤 (𝓣 .C #write-maps·count) (Count 𝓤 H A mem run)) (known-none : Triple 𝓤 (𝓣 .C #write-maps·no-entries) (NoEntries 𝓤 H A mem run))
+    (known-entry : Triple 𝓤 (𝓣 .C #write-maps·entry-of) (EntryOf 𝓤 H A mem run)) (known-write : Triple 𝓤 (𝓣 .C #write-maps·write-entries) (WriteEntries 𝓤 H A mem run)) where
   walks : Walks 𝓤 H A wm.ended stayed (WpFn 𝓤 H (𝓣 .C) (𝓣 .Λ) code.function) (wm.clauses 𝓤 H A mem run)
   walks = walked 𝓤 H A wm.ended stayed (wm.clauses 𝓤 H A mem run) (WpFn 𝓤 H (𝓣 .C) (𝓣 .Λ) code.function)
       (λ κs. (EL.vals D.the-type D′.the-laws, (EL.vals F.the-type F′.the-laws, (slice-vals, (slice-vals, (slice-vals, (uint-vals w64, tt)))))))
@@ -371,9 +371,9 @@ pub write-maps-spec : {M : Type 1} → stated.statement M
 unfolding code.routine tablesOf
 write-maps-spec 𝓤 H 𝓜 𝓖 𝓡 =
     entered 𝓤 H (tripleOf 𝓤 H (𝓖 .A) wm.signature (wm.spec 𝓤 H (𝓖 .A) (𝓜 .mem) (𝓡 .run)))
-    (tables 𝓤 H 𝓜 𝓡 code.env .C) (tables 𝓤 H 𝓜 𝓡 code.env .Λ) #maps·write-maps code.function (code.unfolded 𝓤 H 𝓜 𝓡)
+    (tables 𝓤 H 𝓜 𝓡 code.env .C) (tables 𝓤 H 𝓜 𝓡 code.env .Λ) #write-maps·write-maps code.function (code.unfolded 𝓤 H 𝓜 𝓡)
     (meets 𝓤 H (𝓖 .A) (givenOf 𝓤 H 𝓜 𝓖) (𝓜 .mem) (𝓡 .run) (tablesOf 𝓤 H 𝓜 (tables 𝓤 H 𝓜 𝓡 code.env))
-    (cited 𝓤 H (Count 𝓤 H (𝓖 .A) (𝓜 .mem) (𝓡 .run)) 𝓜 𝓡 code.env #maps·count count-def.routine code.calls-maps·count (count-thm.met 𝓤 H 𝓜 𝓖 𝓡))
-    (cited 𝓤 H (NoEntries 𝓤 H (𝓖 .A) (𝓜 .mem) (𝓡 .run)) 𝓜 𝓡 code.env #maps·no-entries no-entries-def.routine code.calls-maps·no-entries (no-entries-thm.met 𝓤 H 𝓜 𝓖 𝓡))
-    (cited 𝓤 H (EntryOf 𝓤 H (𝓖 .A) (𝓜 .mem) (𝓡 .run)) 𝓜 𝓡 code.env #maps·entry-of entry-of-def.routine code.calls-maps·entry-of (entry-of-thm.met 𝓤 H 𝓜 𝓖 𝓡))
-    (cited 𝓤 H (WriteEntries 𝓤 H (𝓖 .A) (𝓜 .mem) (𝓡 .run)) 𝓜 𝓡 code.env #maps·write-entries write-entries-def.routine code.calls-maps·write-entries (write-entries-thm.met 𝓤 H 𝓜 𝓖 𝓡)))
+    (cited 𝓤 H (Count 𝓤 H (𝓖 .A) (𝓜 .mem) (𝓡 .run)) 𝓜 𝓡 code.env #write-maps·count count-def.routine code.calls-write-maps·count (count-thm.met 𝓤 H 𝓜 𝓖 𝓡))
+    (cited 𝓤 H (NoEntries 𝓤 H (𝓖 .A) (𝓜 .mem) (𝓡 .run)) 𝓜 𝓡 code.env #write-maps·no-entries no-entries-def.routine code.calls-write-maps·no-entries (no-entries-thm.met 𝓤 H 𝓜 𝓖 𝓡))
+    (cited 𝓤 H (EntryOf 𝓤 H (𝓖 .A) (𝓜 .mem) (𝓡 .run)) 𝓜 𝓡 code.env #write-maps·entry-of entry-of-def.routine code.calls-write-maps·entry-of (entry-of-thm.met 𝓤 H 𝓜 𝓖 𝓡))
+    (cited 𝓤 H (WriteEntries 𝓤 H (𝓖 .A) (𝓜 .mem) (𝓡 .run)) 𝓜 𝓡 code.env #write-maps·write-entries write-entries-def.routine code.calls-write-maps·write-entries (write-entries-thm.met 𝓤 H 𝓜 𝓖 𝓡)))
