@@ -30,7 +30,7 @@ pub struct Joined {
 
 // The number of the packet behind another.
 fn next_number(last: u64) -> u64
-    ensures { λ r. ⌜ last < 128 → r ≡ (last + 1) % 128 ⌝ }
+    ensures { λ r. ⌜ (last < 128 → r ≡ (last + 1) % 128) ⌝ }
 {
     if last < 127 { last + 1 } else { 0 }
 }
