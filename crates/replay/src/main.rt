@@ -1,43 +1,54 @@
 // Replays files of test vectors, named by its arguments, and prints how many cases passed and failed.
-mod back;
-mod cases;
 mod files;
-mod floats;
-mod print;
-mod readings;
-mod settled;
-mod tries;
-mod walks;
 
-use files::Tally;
+use desk_io::pieces::sum;
+use files::print;
+use libc::STDOUT_FILENO;
 
-// Replays the file of an argument.
-fn replay_argument(i: usize, room: &mut [u8], entries: &mut [u64], out: &mut [u8]) -> Tally {
+// How many cases passed and failed.
+struct Tally {
+    passed: u64,
+    failed: u64,
+}
+
+// Prints how many cases passed and failed.
+fn print_tally(name: &[u8], passed: u64, failed: u64) {
+    io::write_all(STDOUT_FILENO, name);
+    print(b": ", passed, b" passed, ");
+    print(b"", failed, b" failed\n");
+}
+
+// Replays the file of an argument, and adds its cases.
+fn replay_argument(i: usize, room: &mut [u8], t: Tally) -> Tally {
     let mut path = io::buffer();
     let n = os::arg(i, &mut path);
     let name = &path[..n];
-    let tally = files::replay_name(name, room, entries, out);
-    print::sums(name, tally.passed, tally.failed, tally.later);
-    tally
+    let p = files::replay_name(name, room);
+    print_tally(name, p.passed, p.failed);
+    Tally {
+        passed: sum(t.passed, p.passed),
+        failed: sum(t.failed, p.failed),
+    }
 }
 
 // Replays the files of all arguments.
-fn replay_all(room: &mut [u8], entries: &mut [u64], out: &mut [u8]) -> Tally {
+fn replay_all(room: &mut [u8]) -> Tally {
     let count = os::arg_count();
-    let mut total = Tally::none();
+    let mut t = Tally {
+        passed: 0,
+        failed: 0,
+    };
     let mut i = 1;
     while i < count {
-        total = total.and(replay_argument(i, room, entries, out));
+        t = replay_argument(i, room, t);
         i += 1;
     }
-    total
+    t
 }
 
-// The buffer is longer than any case, and the output than any frame of one; a case has at most 65,535 entries.
+// The buffer is longer than any case.
 fn main() {
     let mut room = [0u8; 524288];
-    let mut entries = [0u64; 65536];
-    let mut out = [0u8; 524288];
-    let total = replay_all(&mut room, &mut entries, &mut out);
-    print::sums(b"total", total.passed, total.failed, total.later);
+    let t = replay_all(&mut room);
+    print_tally(b"total", t.passed, t.failed);
 }

@@ -1,3 +1,2 @@
 pub mod Little
 pub mod Extents
-pub mod Fits

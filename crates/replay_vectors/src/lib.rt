@@ -1,4 +1,4 @@
-// The format of the test vectors: little-endian numbers, and the extents of a case.
+// The format of the test vectors: little-endian numbers, the extents of a case, and its parts.
 pub mod cases;
-pub mod fit;
 pub mod little;
+pub mod parts;
