@@ -67,38 +67,6 @@ pub enum Case {
     Cut,
 }
 
-// As many bytes from a start on, where the size has them.
-fn bytes_from(size: usize, start: usize, count: usize) -> Part
-    requires { ⌜ start ≤ size ⌝ }
-    ensures { λ r. ⌜ PartIn r 1 start size ⌝ }
-{
-    if count <= size - start {
-        Part::Whole(Span {
-            start,
-            count,
-            next: start + count,
-        })
-    } else {
-        Part::Cut
-    }
-}
-
-// As many numbers of eight bytes from a start on, where the size has them.
-fn numbers_from(size: usize, start: usize, count: usize) -> Part
-    requires { ⌜ start ≤ size ⌝ }
-    ensures { λ r. ⌜ PartIn r 8 start size ⌝ }
-{
-    if count <= (size - start) / 8 {
-        Part::Whole(Span {
-            start,
-            count,
-            next: start + 8 * count,
-        })
-    } else {
-        Part::Cut
-    }
-}
-
 // A count of four bytes at a place, and as many bytes.
 fn bytes_at(s: &[u8], at: usize) -> Part
     requires { ⌜ at ≤ length (now s) ⌝ }
@@ -107,44 +75,36 @@ fn bytes_at(s: &[u8], at: usize) -> Part
     if s.len() - at < 4 {
         return Part::Cut;
     }
-    let count = little::u32_at(s, at);
-    bytes_from(s.len(), at + 4, count as usize)
-}
-
-// A count of one byte at a place, and as many numbers.
-fn few_at(s: &[u8], at: usize) -> Part
-    requires { ⌜ at ≤ length (now s) ⌝ }
-    ensures { λ r. ⌜ PartIn r 8 (at + 1) (length (now (s .entry))) ⌝ }
-{
-    if s.len() - at < 1 {
+    let start = at + 4;
+    let count = little::u32_at(s, at) as usize;
+    if s.len() - start < count {
         return Part::Cut;
     }
-    let count = little::byte_at(s, at);
-    numbers_from(s.len(), at + 1, count as usize)
+    Part::Whole(Span {
+        start,
+        count,
+        next: start + count,
+    })
 }
 
-// A count of two bytes at a place, and as many numbers.
-fn entries_at(s: &[u8], at: usize) -> Part
+// A count of one, two or four bytes at a place, and as many numbers of eight bytes.
+fn numbers_at(s: &[u8], at: usize, width: usize) -> Part
     requires { ⌜ at ≤ length (now s) ⌝ }
-    ensures { λ r. ⌜ PartIn r 8 (at + 2) (length (now (s .entry))) ⌝ }
+    ensures { λ r. ⌜ PartIn r 8 (at + width) (length (now (s .entry))) ⌝ }
 {
-    if s.len() - at < 2 {
+    if s.len() - at < width {
         return Part::Cut;
     }
-    let count = little::u16_at(s, at);
-    numbers_from(s.len(), at + 2, count as usize)
-}
-
-// A count of four bytes at a place, and as many numbers.
-fn many_at(s: &[u8], at: usize) -> Part
-    requires { ⌜ at ≤ length (now s) ⌝ }
-    ensures { λ r. ⌜ PartIn r 8 (at + 4) (length (now (s .entry))) ⌝ }
-{
-    if s.len() - at < 4 {
+    let start = at + width;
+    let count = little::count_at(s, at, width) as usize;
+    if (s.len() - start) / 8 < count {
         return Part::Cut;
     }
-    let count = little::u32_at(s, at);
-    numbers_from(s.len(), at + 4, count as usize)
+    Part::Whole(Span {
+        start,
+        count,
+        next: start + 8 * count,
+    })
 }
 
 // What a case at a place asks.
@@ -155,13 +115,13 @@ fn asked_at(s: &[u8], at: usize) -> AskedPart
         return AskedPart::Cut;
     }
     let op = s[at];
-    let Part::Whole(numbers) = few_at(s, at + 1) else {
+    let Part::Whole(numbers) = numbers_at(s, at + 1, 1) else {
         return AskedPart::Cut;
     };
     let Part::Whole(text) = bytes_at(s, numbers.next) else {
         return AskedPart::Cut;
     };
-    let Part::Whole(entries) = entries_at(s, text.next) else {
+    let Part::Whole(entries) = numbers_at(s, text.next, 2) else {
         return AskedPart::Cut;
     };
     AskedPart::Whole(Asked {
@@ -182,13 +142,13 @@ fn answer_at(s: &[u8], at: usize) -> AnswerPart
     }
     let refusal = s[at];
     let value = little::u64_at(s, at + 1);
-    let Part::Whole(out_numbers) = few_at(s, at + 9) else {
+    let Part::Whole(out_numbers) = numbers_at(s, at + 9, 1) else {
         return AnswerPart::Cut;
     };
     let Part::Whole(bytes) = bytes_at(s, out_numbers.next) else {
         return AnswerPart::Cut;
     };
-    let Part::Whole(out_entries) = many_at(s, bytes.next) else {
+    let Part::Whole(out_entries) = numbers_at(s, bytes.next, 4) else {
         return AnswerPart::Cut;
     };
     AnswerPart::Whole(Answer {

@@ -28,6 +28,19 @@ pub fn u32_at(s: &[u8], at: usize) -> u64
     u16_at(s, at) + 65536 * u16_at(s, at + 2)
 }
 
+// The number of one, two or four bytes from a place on.
+pub fn count_at(s: &[u8], at: usize, width: usize) -> u64
+    requires { ⌜ at + width ≤ length (now s) ⌝ }
+    ensures { λ r. ⌜ r < 4294967296 ⌝ }
+{
+    match width {
+        1 => byte_at(s, at),
+        2 => u16_at(s, at),
+        4 => u32_at(s, at),
+        _ => 0,
+    }
+}
+
 // The number of eight bytes from a place on.
 pub fn u64_at(s: &[u8], at: usize) -> u64
     requires { ⌜ at + 8 ≤ length (now s) ⌝ }

@@ -6,19 +6,19 @@ use Rattle.replay_vectors.proofs.cases.asked_at.Statement.{statement}
 use Rattle.replay_vectors.proofs.cases.asked_at.Tie as tie
 
 bytes-at-requires : tie.Need-bytes-at-requires
-bytes-at-requires c κs = whole-in (c .before .numbers .given .1) (c .before .before .before .few-at .ensures) .1 .within
+bytes-at-requires c κs = whole-in (c .before .numbers .given .1) (c .before .before .before .numbers-at .ensures) .1 .within
 
-entries-at-requires : tie.Need-entries-at-requires
-entries-at-requires c κs = whole-in (c .before .text .given .1) (c .before .before .before .bytes-at .ensures) .1 .within
+numbers-at-requires-2 : tie.Need-numbers-at-requires-2
+numbers-at-requires-2 c κs = whole-in (c .before .text .given .1) (c .before .before .before .bytes-at .ensures) .1 .within
 
 returns-5 : tie.Need-returns-5
 returns-5 c =
     let e = c .before in
     let t = e .before .before .before .before in
     let v = t .before .before .before .before in
-    let in-e = whole-in (e .entries .given .1) (e .before .before .entries-at .ensures) in
+    let in-e = whole-in (e .entries .given .1) (e .before .before .numbers-at2 .ensures) in
     let in-t = whole-in (t .text .given .1) (t .before .before .bytes-at .ensures) in
-    let in-v = whole-in (v .numbers .given .1) (v .before .before .few-at .ensures) in
+    let in-v = whole-in (v .numbers .given .1) (v .before .before .numbers-at .ensures) in
     record {
       numbers-start = in-v .0;
       text-start = in-t .0;
@@ -43,7 +43,7 @@ asked-at-spec =
     (λ c. search needs)
     (λ c. search needs)
     (λ c. search needs)
-    entries-at-requires
+    numbers-at-requires-2
     (λ c. search needs)
     (λ c. search needs)
     (λ c. search needs)
