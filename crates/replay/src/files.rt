@@ -92,7 +92,8 @@ fn go_on(p: Progress, fd: i32, name: &[u8], room: &mut [u8]) -> Progress {
 fn replay_case(s: &[u8], e: Extents) -> Verdict
     requires { ⌜ Inside e (length (now s)) ⌝ }
 {
-    match e.op {
+    let op = e.op;
+    match op {
         1 | 64 | 66 => replay_write::replay(s, e),
         2 | 4 => replay_read::replay(s, e),
         3 | 65 => replay_walk::replay(s, e),

@@ -99,19 +99,12 @@ fn is_answer(s: &[u8], e: Extents, r: Reading, data: &[u8], entries: &[u64]) -> 
     }
 }
 
-// Reads a frame for a kind with so many places lent for file data and for entries, and holds the answer to the case.
-fn is_read(s: &[u8], e: Extents, kind: Kind, x: usize, y: usize) -> bool
-    requires { ⌜ Inside e (length (now s)) × (x ≤ 70000) × (y ≤ 70000) ⌝ }
+// Reads a frame for a kind with places lent for file data and for entries, and holds the answer to the case.
+fn is_read(s: &[u8], e: Extents, kind: Kind, data: &mut [u8], entries: &mut [u64]) -> bool
+    requires { ⌜ Inside e (length (now s)) ⌝ }
 {
-    let mut data = [BEFORE; MOST];
-    let mut entries = [parts::BEFORE; MOST];
-    let r = reader::read(
-        parts::text_of(s, e),
-        kind,
-        &mut data[0..x],
-        &mut entries[0..y],
-    );
-    is_answer(s, e, r, &data[0..x], &entries[0..y])
+    let r = reader::read(parts::text_of(s, e), kind, data, entries);
+    is_answer(s, e, r, data, entries)
 }
 
 // Whether identity bytes are read as the case says: its numbers are those of the reply without head code and device.
@@ -150,6 +143,10 @@ pub fn replay(s: &[u8], e: Extents) -> Verdict
     if 70000 < y {
         return Verdict::Malformed;
     }
+    let mut data = [BEFORE; MOST];
+    let mut entries = [parts::BEFORE; MOST];
+    let a = x as usize;
+    let b = y as usize;
     let k = if kind == 0 { Kind::Bank } else { Kind::WAV };
-    parts::judged(is_read(s, e, k, x as usize, y as usize))
+    parts::judged(is_read(s, e, k, &mut data[0..a], &mut entries[0..b]))
 }

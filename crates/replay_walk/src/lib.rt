@@ -7,7 +7,6 @@ use replay_vectors::cases::Span;
 use replay_vectors::parts;
 use replay_vectors::parts::Verdict;
 use walk::Walked;
-ghost use Prim.Native.Nat.{_≤_};
 ghost use lib.ListN.{length};
 ghost use Rattle.replay_vectors.specs.Extents.{SpanIn, Inside};
 
@@ -47,16 +46,15 @@ fn is_answer(w: Walked, e: Extents) -> bool {
     }
 }
 
-// Walks a stream for a kind with an index of so many numbers, and holds the answer and the index to the case.
-fn is_walked(s: &[u8], e: Extents, kind: Kind, n: usize) -> bool
-    requires { ⌜ Inside e (length (now s)) × (n ≤ 140001) ⌝ }
+// Walks a stream for a kind with an index, and holds the answer and the index to the case.
+fn is_walked(s: &[u8], e: Extents, kind: Kind, index: &mut [u32]) -> bool
+    requires { ⌜ Inside e (length (now s)) ⌝ }
 {
-    let mut index = [BEFORE; 140001];
-    let w = walk::walk(parts::text_of(s, e), kind, &mut index[0..n]);
+    let w = walk::walk(parts::text_of(s, e), kind, index);
     if !is_answer(w, e) {
         return false;
     }
-    is_left(&index[0..n], s, e.out_entries)
+    is_left(index, s, e.out_entries)
 }
 
 // Replays a case of op 3 or 65; an index has a number more than its whole pairs.
@@ -78,6 +76,8 @@ pub fn replay(s: &[u8], e: Extents) -> Verdict
     if MOST < second {
         return Verdict::Malformed;
     }
+    let mut index = [BEFORE; 140001];
+    let n = second as usize * 2 + 1;
     let kind = if first == 0 { Kind::Bank } else { Kind::WAV };
-    parts::judged(is_walked(s, e, kind, second as usize * 2 + 1))
+    parts::judged(is_walked(s, e, kind, &mut index[0..n]))
 }

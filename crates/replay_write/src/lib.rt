@@ -12,6 +12,8 @@ use replay_vectors::little;
 use replay_vectors::parts;
 use replay_vectors::parts::Verdict;
 use tries::Message;
+ghost use mathlib.Core.Path.{_≡_};
+ghost use Prim.Native.Nat.{_≤_};
 ghost use lib.ListN.{length};
 ghost use Rattle.replay_vectors.specs.Extents.{Inside};
 
@@ -76,42 +78,53 @@ fn is_passed(
     e.refusal != 0 || again::answer(frame, kind) == 0
 }
 
-// Replays a write.
-fn replay_write(s: &[u8], e: Extents) -> Verdict
-    requires { ⌜ Inside e (length (now s)) ⌝ }
+// The numbers of a case, and zeros.
+fn numbers_of(s: &[u8], e: Extents) -> [u64; 16]
+    requires { ⌜ Inside e (length (now s)) × (e .numbers .count ≤ 16) ⌝ }
 {
     let numbers = e.numbers;
-    let first = numbers.start;
+    let start = numbers.start;
+    let count = numbers.count;
+    let mut v = [0u64; 16];
+    little::read_numbers(s, start, &mut v[0..count]);
+    v
+}
+
+// Replays a write with lent space for its entries.
+fn replay_write(s: &[u8], e: Extents, entries: &mut [u64]) -> Verdict
+    requires { ⌜ Inside e (length (now s)) × (e .entries .count ≡ length (now entries)) ⌝ }
+{
+    let numbers = e.numbers;
     let n = numbers.count;
     let list = e.entries;
     let start = list.start;
-    let count = list.count;
-    if !is_write(e) {
-        return Verdict::Malformed;
-    }
     if 16 < n {
         return Verdict::Malformed;
     }
-    if 65536 < count {
-        return Verdict::Malformed;
-    }
-    let mut v = [0u64; 16];
-    let mut entries = [0u64; 65536];
-    little::read_numbers(s, first, &mut v[0..n]);
-    little::read_numbers(s, start, &mut entries[0..count]);
+    let v = numbers_of(s, e);
     let Made::Message { device, m } = numbers_to_message::from_numbers(&v[0..n]) else {
         return Verdict::Malformed;
     };
+    little::read_numbers(s, start, entries);
     let kind = kind_of(v[0], v[3]);
-    parts::judged(is_passed(s, e, device, m, kind, &entries[0..count]))
+    parts::judged(is_passed(s, e, device, m, kind, entries))
 }
 
 // Replays a case of op 1, 64 or 66.
 pub fn replay(s: &[u8], e: Extents) -> Verdict
     requires { ⌜ Inside e (length (now s)) ⌝ }
 {
+    let list = e.entries;
+    let count = list.count;
     if e.op == 64 {
         return parts::judged(stretches::is_resent(s, e));
     }
-    replay_write(s, e)
+    if !is_write(e) {
+        return Verdict::Malformed;
+    }
+    if 65536 < count {
+        return Verdict::Malformed;
+    }
+    let mut entries = [0u64; 65536];
+    replay_write(s, e, &mut entries[0..count])
 }

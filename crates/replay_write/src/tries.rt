@@ -50,6 +50,11 @@ fn is_answer(w: Written, refusal: u8, len: usize) -> bool {
     }
 }
 
+// Whether two outputs hold the same bytes.
+fn is_same(a: &[u8; 4096], b: &[u8; 4096]) -> bool {
+    check::same(a, b)
+}
+
 // Whether a message, written at a place of an output of so many bytes, is refused or is the frame there, and all else is as it was.
 fn is_left(
     x: Message,
@@ -69,7 +74,7 @@ fn is_left(
     if !is_answer(w, refusal, frame.len()) {
         return false;
     }
-    check::same(&out, &want)
+    is_same(&out, &want)
 }
 
 // Whether a message is refused as the case says: with room, and at a place past the end.

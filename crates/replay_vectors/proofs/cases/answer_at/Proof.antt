@@ -1,24 +1,23 @@
 -- `replay_vectors::cases::answer_at` meets its contract: each part starts where the one before it ends, and ends within the slice.
 -- Assumes nothing.
-use Rattle.replay_vectors.proofs.Laws.{whole-in}
 use borrow.Author.Needs.{needs}
 use Rattle.replay_vectors.proofs.cases.answer_at.Statement.{statement}
 use Rattle.replay_vectors.proofs.cases.answer_at.Tie as tie
 
 bytes-at-requires : tie.Need-bytes-at-requires
-bytes-at-requires c κs = whole-in (c .before .out-numbers .given .1) (c .before .before .before .numbers-at .ensures) .1 .within
+bytes-at-requires c κs = (rw (c .before .out-numbers .given .1) at (c .before .before .before .numbers-at .ensures)) .1 .within
 
 numbers-at-requires-2 : tie.Need-numbers-at-requires-2
-numbers-at-requires-2 c κs = whole-in (c .before .bytes .given .1) (c .before .before .before .bytes-at .ensures) .1 .within
+numbers-at-requires-2 c κs = (rw (c .before .bytes .given .1) at (c .before .before .before .bytes-at .ensures)) .1 .within
 
 returns-5 : tie.Need-returns-5
 returns-5 c =
     let q = c .before in
     let b = q .before .before .before .before in
     let n = b .before .before .before .before in
-    let in-q = whole-in (q .out-entries .given .1) (q .before .before .numbers-at2 .ensures) in
-    let in-b = whole-in (b .bytes .given .1) (b .before .before .bytes-at .ensures) in
-    let in-n = whole-in (n .out-numbers .given .1) (n .before .before .numbers-at .ensures) in
+    let in-q = rw (q .out-entries .given .1) at (q .before .before .numbers-at2 .ensures) in
+    let in-b = rw (b .bytes .given .1) at (b .before .before .bytes-at .ensures) in
+    let in-n = rw (n .out-numbers .given .1) at (n .before .before .numbers-at .ensures) in
     record {
       out-numbers-start = in-n .0;
       bytes-start = in-b .0;

@@ -1,24 +1,23 @@
 -- `replay_vectors::cases::asked_at` meets its contract: each part starts where the one before it ends, and ends within the slice.
 -- Assumes nothing.
-use Rattle.replay_vectors.proofs.Laws.{whole-in}
 use borrow.Author.Needs.{needs}
 use Rattle.replay_vectors.proofs.cases.asked_at.Statement.{statement}
 use Rattle.replay_vectors.proofs.cases.asked_at.Tie as tie
 
 bytes-at-requires : tie.Need-bytes-at-requires
-bytes-at-requires c κs = whole-in (c .before .numbers .given .1) (c .before .before .before .numbers-at .ensures) .1 .within
+bytes-at-requires c κs = (rw (c .before .numbers .given .1) at (c .before .before .before .numbers-at .ensures)) .1 .within
 
 numbers-at-requires-2 : tie.Need-numbers-at-requires-2
-numbers-at-requires-2 c κs = whole-in (c .before .text .given .1) (c .before .before .before .bytes-at .ensures) .1 .within
+numbers-at-requires-2 c κs = (rw (c .before .text .given .1) at (c .before .before .before .bytes-at .ensures)) .1 .within
 
 returns-5 : tie.Need-returns-5
 returns-5 c =
     let e = c .before in
     let t = e .before .before .before .before in
     let v = t .before .before .before .before in
-    let in-e = whole-in (e .entries .given .1) (e .before .before .numbers-at2 .ensures) in
-    let in-t = whole-in (t .text .given .1) (t .before .before .bytes-at .ensures) in
-    let in-v = whole-in (v .numbers .given .1) (v .before .before .numbers-at .ensures) in
+    let in-e = rw (e .entries .given .1) at (e .before .before .numbers-at2 .ensures) in
+    let in-t = rw (t .text .given .1) at (t .before .before .bytes-at .ensures) in
+    let in-v = rw (v .numbers .given .1) at (v .before .before .numbers-at .ensures) in
     record {
       numbers-start = in-v .0;
       text-start = in-t .0;
