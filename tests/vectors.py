@@ -270,8 +270,10 @@ def wrong_others(folder):
     yield changed(copy.deepcopy(whole), list=shorter)
     yield changed(copy.deepcopy(whole), value=58, list=lambda v: v + [0])
     yield changed(copy.deepcopy(damaged), list=at(2, -SUM))
+    yield changed(copy.deepcopy(damaged), refusal=SUM)
     yield changed(copy.deepcopy(damaged), list=at(3, 1))
     yield changed(short()[6], value=13)
+    yield changed(short()[5], refusal=SHAPE)
     yield changed(short()[6], numbers=[6, 6 ** 5])
 
 

@@ -68,7 +68,7 @@ pub fn replay(s: &[u8], e: Extents) -> Verdict
     let first = parts::number_at(s, numbers, 0);
     let second = parts::number_at(s, numbers, 1);
     if e.op == 65 {
-        return short::replay(first, second, e.value);
+        return short::replay(first, second, e.refusal, e.value);
     }
     if 1 < first {
         return Verdict::Malformed;

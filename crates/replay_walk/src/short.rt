@@ -1,4 +1,5 @@
 // Op 65: all streams of a length over the bytes F0, F7, 7E, 00, 7B and 80, walked and held against every stretch tested by itself.
+use super::wide;
 use messages::file_reference::Kind;
 use replay_vectors::parts;
 use replay_vectors::parts::Verdict;
@@ -26,17 +27,12 @@ fn make(number: u64) -> [u8; MOST] {
     s
 }
 
-// A number of an index.
-fn wide(x: u32) -> usize {
-    x as usize
-}
-
 // Whether pair n of an index is an offset and a length.
 fn is_pair(index: &[u32; 16], n: usize, offset: usize, len: usize) -> bool {
     if 7 < n {
         return false;
     }
-    wide(index[2 * n]) == offset && wide(index[2 * n + 1]) == len
+    wide(index[2 * n]) == offset as u64 && wide(index[2 * n + 1]) == len as u64
 }
 
 // Whether a stream has so many bytes from an offset on, and they are a frame.
@@ -74,7 +70,7 @@ fn frames_of(s: &[u8]) -> u64 {
     }
 }
 
-// How many frames the streams of a length and the first so many numbers have; OTHER more for each that is not walked right.
+// How many frames the first so many streams of a length have; OTHER for each that is not walked right.
 fn frames_of_all(len: usize, streams: u64) -> u64 {
     let mut frames = 0u64;
     let mut i = 0u64;
@@ -87,9 +83,9 @@ fn frames_of_all(len: usize, streams: u64) -> u64 {
 }
 
 // Replays the streams of a length: so many, with so many frames in all.
-pub fn replay(len: u64, streams: u64, frames: u64) -> Verdict {
+pub fn replay(len: u64, streams: u64, refusal: u8, frames: u64) -> Verdict {
     if 7 < len {
         return Verdict::Malformed;
     }
-    parts::judged(frames_of_all(len as usize, streams) == frames)
+    parts::judged(refusal == 0 && frames_of_all(len as usize, streams) == frames)
 }

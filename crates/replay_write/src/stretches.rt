@@ -34,5 +34,5 @@ pub fn is_resent(s: &[u8], e: Extents) -> bool
             n += 1;
         }
     }
-    n == answers.count && n as u64 == e.value
+    e.refusal == 0 && n == answers.count && n as u64 == e.value
 }
