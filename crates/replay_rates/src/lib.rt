@@ -3,7 +3,6 @@ use rates::SplitAnswer;
 use replay_vectors::cases::Extents;
 use replay_vectors::parts;
 use replay_vectors::parts::Verdict;
-ghost use Prim.Native.Nat.{_<_};
 ghost use lib.ListN.{length};
 ghost use Rattle.replay_vectors.specs.Extents.{Inside};
 

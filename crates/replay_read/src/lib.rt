@@ -132,21 +132,19 @@ pub fn replay(s: &[u8], e: Extents) -> Verdict
         return Verdict::Malformed;
     }
     let kind = parts::number_at(s, numbers, 0);
-    let x = parts::number_at(s, numbers, 1);
-    let y = parts::number_at(s, numbers, 2);
+    let x = parts::number_at(s, numbers, 1) as usize;
+    let y = parts::number_at(s, numbers, 2) as usize;
     if 1 < kind {
         return Verdict::Malformed;
     }
-    if 70000 < x {
+    if MOST < x {
         return Verdict::Malformed;
     }
-    if 70000 < y {
+    if MOST < y {
         return Verdict::Malformed;
     }
     let mut data = [BEFORE; MOST];
     let mut entries = [parts::BEFORE; MOST];
-    let a = x as usize;
-    let b = y as usize;
     let k = if kind == 0 { Kind::Bank } else { Kind::WAV };
-    parts::judged(is_read(s, e, k, &mut data[0..a], &mut entries[0..b]))
+    parts::judged(is_read(s, e, k, &mut data[0..x], &mut entries[0..y]))
 }

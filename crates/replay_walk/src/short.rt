@@ -84,8 +84,9 @@ fn frames_of_all(len: usize, streams: u64) -> u64 {
 
 // Replays the streams of a length: so many, with so many frames in all.
 pub fn replay(len: u64, streams: u64, refusal: u8, frames: u64) -> Verdict {
-    if 7 < len {
+    let n = len as usize;
+    if MOST < n {
         return Verdict::Malformed;
     }
-    parts::judged(refusal == 0 && frames_of_all(len as usize, streams) == frames)
+    parts::judged(refusal == 0 && frames_of_all(n, streams) == frames)
 }
