@@ -1,7 +1,7 @@
 -- Which floats and which bits are no NaN.
 -- Assumes nothing.
 use mathlib.Core.Path.{_≡_, sym, subst, _∙_}
-use mathlib.Core.Bool.{Bool, true, false, not}
+use mathlib.Core.Bool.{Bool, true, not}
 use Prim.Native.Nat.{ℕ, _%_, _*_, _≤_}
 use native.Mathlib.Omega.{arith}
 use lib.Dec.{T}

@@ -7,7 +7,7 @@ use native.Mathlib.Omega.{arith}
 use denote.Ref.{now}
 use lib.ListN.{length, getD, length-set}
 use lib.Seq.{getD-set-other}
-use Rattle.desk_io.proofs.Laws.{store-more}
+use Rattle.util.proofs.Laws.Stores.{store-more}
 use Rattle.desk_io.proofs.pieces.shift.Statement.{statement}
 use Rattle.desk_io.proofs.pieces.shift.Tie as tie
 

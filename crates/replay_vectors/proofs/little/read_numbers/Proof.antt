@@ -4,7 +4,7 @@ use borrow.Author.Needs.{needs}
 use Prim.Native.Nat.{ℕ, _+_, _*_, _≤_, _<_, _-_}
 use native.Mathlib.Omega.{arith}
 use Rattle.replay_vectors.specs.Little.{little8}
-use Rattle.replay_vectors.proofs.Laws.{store-more}
+use Rattle.util.proofs.Laws.Stores.{store-more}
 use mathlib.Core.Path.{_≡_, refl, _∙_}
 use denote.Ref.{now}
 use lib.ListN.{length, getD, length-set}

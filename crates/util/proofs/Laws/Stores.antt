@@ -8,6 +8,7 @@ use lib.ListN.{length, getD, set}
 use lib.Seq.{getD-set-same, getD-set-other}
 use borrow.Author.Count.{below-more}
 
+-- what holds of each number below i, and of the one that is stored at i, holds of each below i + 1
 pub store-more : (f : ℕ → ℕ) (xs : List ℕ) (i v : ℕ) → i < length xs → v ≡ f i → ((k : ℕ) → k < i → getD xs k 0 ≡ f k)
     → (k : ℕ) → k < i + 1 → getD (set xs i v) k 0 ≡ f k
 store-more f xs i v h e all =
