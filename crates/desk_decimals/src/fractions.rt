@@ -1,6 +1,7 @@
 // Cents as parts of a semitone.
 use super::Number;
 use super::cents::Decimals;
+use util::limits::KEYS;
 ghost use mathlib.Core.Path.{_≡_};
 ghost use Prim.Native.Nat.{_≤_};
 ghost use Rattle.desk_decimals.specs.Fractions.{Nearest, entry-of, highest, tuning-entry};
@@ -9,7 +10,7 @@ ghost use Rattle.desk_decimals.specs.Fractions.{Nearest, entry-of, highe
 const HIGHEST: u64 = 2097150;
 
 // The 16,384ths of a semitone nearest to ten thousandths of a cent.
-pub fn nearest_16384(amount: u64) -> u64
+fn nearest_16384(amount: u64) -> u64
     requires { ⌜ amount ≤ 1000000000000 ⌝ }
     ensures { λ r. ⌜ Nearest amount 16384 r ⌝ }
 {
@@ -44,7 +45,7 @@ fn in_range(pitch: u64) -> Number
 
 // The entry of a key's tuning, told by its difference from equal temperament.
 pub fn tuned(key: u64, d: Decimals) -> Number {
-    if 127 < key {
+    if KEYS as u64 <= key {
         return Number::Nothing;
     }
     let at = key * 16384;

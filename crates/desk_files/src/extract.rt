@@ -11,14 +11,16 @@ use messages::file_dump::FileDumpMsg;
 use messages::file_reference::Kind;
 use messages::system_exclusive::UniversalNonRealTimeMsg;
 use reader::lent::Reading;
+use util::limits::KEYS;
+use util::limits::MOST_DATA;
 use walk::Walked;
 ghost use Prim.Native.Nat.{_≤_};
 ghost use lib.ListN.{length};
 
 // Reads a frame, and joins it to what is there.
 fn join_frame(frame: &[u8], kind: Kind, out: i32, j: Joined) -> Joined {
-    let mut data = [0u8; 128];
-    let mut entries = [0u64; 128];
+    let mut data = [0u8; MOST_DATA];
+    let mut entries = [0u64; KEYS];
     match reader::read(frame, kind, &mut data, &mut entries) {
         Reading::Frame {
             device: _,
@@ -192,8 +194,8 @@ fn is_file(m: UniversalNonRealTimeMsg) -> bool {
 
 // Extracts what begins with a stretch.
 fn extract_from(frame: &[u8], path: &[u8], kind: Kind, offset: u64, to: &[u8], errors: i32) {
-    let mut data = [0u8; 128];
-    let mut entries = [0u64; 128];
+    let mut data = [0u8; MOST_DATA];
+    let mut entries = [0u64; KEYS];
     match reader::read(frame, kind, &mut data, &mut entries) {
         Reading::Frame {
             device: _,

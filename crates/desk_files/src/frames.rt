@@ -7,6 +7,8 @@ use desk_print::put;
 use messages::file_reference::Kind;
 use reader::lent::Reading;
 use util::groups::at;
+use util::limits::KEYS;
+use util::limits::MOST_DATA;
 use util::refusal::Refusal;
 ghost use Prim.Native.Nat.{_≤_};
 ghost use lib.ListN.{length};
@@ -74,8 +76,8 @@ pub fn put_place(offset: u64, len: usize) {
 
 // Writes what a frame is, in one line.
 fn describe(frame: &[u8], kind: Kind) {
-    let mut data = [0u8; 128];
-    let mut entries = [0u64; 128];
+    let mut data = [0u8; MOST_DATA];
+    let mut entries = [0u64; KEYS];
     match reader::read(frame, kind, &mut data, &mut entries) {
         Reading::Frame {
             device: _,

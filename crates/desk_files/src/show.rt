@@ -13,6 +13,8 @@ use messages::file_reference::Kind;
 use messages::system_exclusive::DeviceID;
 use messages::system_exclusive::UniversalNonRealTimeMsg;
 use reader::lent::Reading;
+use util::limits::KEYS;
+use util::limits::MOST_DATA;
 
 // The bytes of a file packet.
 fn show_data(m: FileDumpMsg, data: &[u8]) {
@@ -56,8 +58,8 @@ fn show_common(frame: &[u8], device: DeviceID) {
 
 // The lines of a frame.
 fn show_frame(frame: &[u8], offset: u64, kind: Kind) {
-    let mut data = [0u8; 128];
-    let mut entries = [0u64; 128];
+    let mut data = [0u8; MOST_DATA];
+    let mut entries = [0u64; KEYS];
     match reader::read(frame, kind, &mut data, &mut entries) {
         Reading::Frame {
             device,

@@ -12,6 +12,7 @@ use messages::tuning::MaybeTuning;
 use messages::tuning::Scale1Byte;
 use messages::tuning::Scale2Byte;
 use messages::tuning::Tuning;
+use util::limits::KEYS;
 use util::signed;
 ghost use mathlib.Core.Path.{_≡_};
 ghost use Prim.Native.Nat.{_≤_};
@@ -62,7 +63,7 @@ fn key_line(key: u8, tuning: MaybeTuning) {
 pub fn keys(entries: &[u64]) {
     let mut i = 0;
     while i < entries.len() {
-        if 127 < i {
+        if KEYS <= i {
             return;
         }
         key_line(i as u8, MaybeTuning::from_entry(entries[i]));

@@ -4,6 +4,7 @@ use desk_decimals::Number;
 use desk_decimals::cents;
 use desk_decimals::fractions;
 use util::groups::at;
+use util::limits::KEYS;
 use util::limits::NO_TUNING;
 
 // A key that no line has named yet.
@@ -29,7 +30,7 @@ fn is_dash(s: &[u8]) -> bool {
 
 // What a word says of a key's tuning.
 fn said_of(key: u64, word: &[u8]) -> Said {
-    if 127 < key {
+    if KEYS as u64 <= key {
         return Said::NoKey;
     }
     if is_dash(word) {
@@ -146,7 +147,7 @@ fn clear(entries: &mut [u64]) {
 
 // The entry of a key in equal temperament.
 fn equal(key: usize) -> u64 {
-    if key < 128 { key as u64 * 65536 } else { 0 }
+    if key < KEYS { key as u64 * 65536 } else { 0 }
 }
 
 // The entry of a key: what a line says, or equal temperament.

@@ -15,6 +15,8 @@ use messages::tuning::ScaleTuningDump1Byte;
 use messages::tuning::ScaleTuningDump2Byte;
 use messages::tuning::TuningBank;
 use util::bytes::is_seven;
+use util::limits::KEYS;
+use util::limits::LARGEST_U7;
 use writer::Written;
 ghost use Prim.Native.Nat.{_≤_};
 ghost use lib.ListN.{length};
@@ -76,7 +78,7 @@ fn are_values(v: Values, errors: i32) -> bool {
 fn seven(word: &[u8], errors: i32) -> u8 {
     match desk_decimals::parse(word) {
         Number::Is(n) => {
-            if n < 128 {
+            if n <= LARGEST_U7 as u64 {
                 return n as u8;
             }
         }
@@ -131,7 +133,7 @@ fn save_message(
 
 // Writes the key dump of lines as a new file.
 fn save_keys(path: &[u8], program: u8, name: &[u8], s: &[u8], errors: i32) {
-    let mut entries = [0u64; 128];
+    let mut entries = [0u64; KEYS];
     if are_good(keys::read(s, &mut entries), errors) {
         let dump = KeyBasedTuningDump {
             tuning_bank_num: TuningBank::NoBank,
@@ -150,7 +152,7 @@ fn save_keys(path: &[u8], program: u8, name: &[u8], s: &[u8], errors: i32) {
 // Makes a key dump of the lines of an open file.
 pub fn tune(path: &[u8], program: &[u8], name: &[u8], input: i32, errors: i32) {
     let p = seven(program, errors);
-    if 127 < p {
+    if LARGEST_U7 < p {
         return;
     }
     if !is_name(name, errors) {
@@ -192,11 +194,11 @@ fn save_scale(path: &[u8], bank: u8, program: u8, name: &[u8], s: &[u8], errors:
 // Makes a scale dump of the twelve values of an open file.
 pub fn make_scale(path: &[u8], bank: &[u8], program: &[u8], name: &[u8], input: i32, errors: i32) {
     let b = seven(bank, errors);
-    if 127 < b {
+    if LARGEST_U7 < b {
         return;
     }
     let p = seven(program, errors);
-    if 127 < p {
+    if LARGEST_U7 < p {
         return;
     }
     if !is_name(name, errors) {

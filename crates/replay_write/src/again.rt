@@ -4,6 +4,7 @@ use messages::system_exclusive::DeviceID;
 use messages::system_exclusive::UniversalNonRealTimeMsg;
 use reader::lent::Reading;
 use util::bytes::sub_slice;
+use util::limits::KEYS;
 use writer::Written;
 
 // The answer where a message is written as other bytes. No refusal has it.
@@ -35,8 +36,8 @@ fn has_data(frame: &[u8]) -> bool {
 
 // Reads a frame and writes its message again: 0 where that gives the same bytes, or the number of the refusal to read or to write it.
 pub fn answer(frame: &[u8], kind: Kind) -> u8 {
-    let mut data = [0u8; 128];
-    let mut entries = [0u64; 128];
+    let mut data = [0u8; KEYS];
+    let mut entries = [0u64; KEYS];
     match reader::read(frame, kind, &mut data, &mut entries) {
         Reading::Refused(r) => r.number(),
         Reading::Frame {
@@ -46,7 +47,7 @@ pub fn answer(frame: &[u8], kind: Kind) -> u8 {
             len,
             places,
         } => {
-            if 128 < places {
+            if KEYS < places {
                 return OTHER;
             }
             if has_data(frame) {
