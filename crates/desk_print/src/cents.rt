@@ -1,6 +1,7 @@
 // Signed values in cents.
 use super::four;
 use super::number;
+use super::output::Output;
 use super::put;
 ghost use mathlib.Core.Path.{_≡_};
 ghost use Prim.Native.Nat.{_+_, _-_, _*_, _/_, _≤_};
@@ -12,27 +13,27 @@ pub struct Signed {
     pub amount: u64,
 }
 
-// Writes the sign of an amount.
-fn put_sign(is_below: bool) {
+// Puts the sign of an amount.
+fn put_sign(out: &mut Output, is_below: bool) {
     if is_below {
-        put(b"-");
+        put(out, b"-");
     } else {
-        put(b"+");
+        put(out, b"+");
     }
 }
 
-// Writes a signed whole number.
-pub fn whole(v: Signed) {
-    put_sign(v.is_below);
-    number(v.amount);
+// Puts a signed whole number.
+pub fn whole(out: &mut Output, v: Signed) {
+    put_sign(out, v.is_below);
+    number(out, v.amount);
 }
 
-// Writes a signed number of ten thousandths.
-pub fn decimals(v: Signed) {
-    put_sign(v.is_below);
-    number(v.amount / 10000);
-    put(b".");
-    four(v.amount);
+// Puts a signed number of ten thousandths.
+pub fn decimals(out: &mut Output, v: Signed) {
+    put_sign(out, v.is_below);
+    number(out, v.amount / 10000);
+    put(out, b".");
+    four(out, v.amount);
 }
 
 // How far one number is from another.

@@ -1,6 +1,7 @@
 // The fields of a message: the main ones in one line, or every field a line.
 use super::grouped;
 use super::names;
+use super::output::Output;
 use super::put;
 
 // One line with the main fields, or a line for each field.
@@ -10,131 +11,131 @@ pub enum Style {
 }
 
 // Begins a message.
-pub fn title(style: Style, name: &[u8]) {
+pub fn title(out: &mut Output, style: Style, name: &[u8]) {
     match style {
-        Style::Line => put(name),
+        Style::Line => put(out, name),
         Style::Lines => {
-            put(b"message: ");
-            put(name);
-            put(b"\n");
+            put(out, b"message: ");
+            put(out, name);
+            put(out, b"\n");
         }
     }
 }
 
 // Begins a field that is named in a line too.
-pub fn begin(style: Style, label: &[u8]) {
+pub fn begin(out: &mut Output, style: Style, label: &[u8]) {
     match style {
         Style::Line => {
-            put(b", ");
-            put(label);
-            put(b" ");
+            put(out, b", ");
+            put(out, label);
+            put(out, b" ");
         }
         Style::Lines => {
-            put(label);
-            put(b": ");
+            put(out, label);
+            put(out, b": ");
         }
     }
 }
 
 // Begins a field that is not named in a line.
-pub fn begin_plain(style: Style, label: &[u8]) {
+pub fn begin_plain(out: &mut Output, style: Style, label: &[u8]) {
     match style {
-        Style::Line => put(b", "),
+        Style::Line => put(out, b", "),
         Style::Lines => {
-            put(label);
-            put(b": ");
+            put(out, label);
+            put(out, b": ");
         }
     }
 }
 
 // Ends a field.
-pub fn end(style: Style) {
+pub fn end(out: &mut Output, style: Style) {
     match style {
         Style::Line => {}
-        Style::Lines => put(b"\n"),
+        Style::Lines => put(out, b"\n"),
     }
 }
 
 // A number that is named in a line too.
-pub fn named(style: Style, label: &[u8], n: u64) {
-    begin(style, label);
-    grouped(n);
-    end(style);
+pub fn named(out: &mut Output, style: Style, label: &[u8], n: u64) {
+    begin(out, style, label);
+    grouped(out, n);
+    end(out, style);
 }
 
 // A number with its unit, not named in a line.
-pub fn measure(style: Style, label: &[u8], n: u64, unit: &[u8]) {
-    begin_plain(style, label);
-    grouped(n);
-    put(unit);
-    end(style);
+pub fn measure(out: &mut Output, style: Style, label: &[u8], n: u64, unit: &[u8]) {
+    begin_plain(out, style, label);
+    grouped(out, n);
+    put(out, unit);
+    end(out, style);
 }
 
 // Begins a field that follows the words before it without a comma.
-pub fn begin_close(style: Style, label: &[u8]) {
+pub fn begin_close(out: &mut Output, style: Style, label: &[u8]) {
     match style {
-        Style::Line => put(b" "),
+        Style::Line => put(out, b" "),
         Style::Lines => {
-            put(label);
-            put(b": ");
+            put(out, label);
+            put(out, b": ");
         }
     }
 }
 
 // A name in quotes.
-pub fn name(style: Style, label: &[u8], text: &[u8]) {
-    begin_close(style, label);
-    names::quoted(text);
-    end(style);
+pub fn name(out: &mut Output, style: Style, label: &[u8], text: &[u8]) {
+    begin_close(out, style, label);
+    names::quoted(out, text);
+    end(out, style);
 }
 
 // A number that follows the words before it without a name.
-pub fn close(style: Style, label: &[u8], n: u64) {
-    begin_close(style, label);
-    grouped(n);
-    end(style);
+pub fn close(out: &mut Output, style: Style, label: &[u8], n: u64) {
+    begin_close(out, style, label);
+    grouped(out, n);
+    end(out, style);
 }
 
 // A number that is named behind the title.
-pub fn first(style: Style, label: &[u8], n: u64) {
+pub fn first(out: &mut Output, style: Style, label: &[u8], n: u64) {
     match style {
         Style::Line => {
-            put(b" ");
-            put(label);
-            put(b" ");
+            put(out, b" ");
+            put(out, label);
+            put(out, b" ");
         }
         Style::Lines => {
-            put(label);
-            put(b": ");
+            put(out, label);
+            put(out, b": ");
         }
     }
-    grouped(n);
-    end(style);
+    grouped(out, n);
+    end(out, style);
 }
 
 // A number that is no main field.
-pub fn detail(style: Style, label: &[u8], n: u64) {
+pub fn detail(out: &mut Output, style: Style, label: &[u8], n: u64) {
     match style {
         Style::Line => {}
         Style::Lines => {
-            put(label);
-            put(b": ");
-            grouped(n);
-            put(b"\n");
+            put(out, label);
+            put(out, b": ");
+            grouped(out, n);
+            put(out, b"\n");
         }
     }
 }
 
 // Yes or no, that is no main field.
-pub fn flag(style: Style, label: &[u8], is_set: bool) {
+pub fn flag(out: &mut Output, style: Style, label: &[u8], is_set: bool) {
     match style {
         Style::Line => {}
         Style::Lines => {
-            put(label);
+            put(out, label);
             if is_set {
-                put(b": yes\n");
+                put(out, b": yes\n");
             } else {
-                put(b": no\n");
+                put(out, b": no\n");
             }
         }
     }

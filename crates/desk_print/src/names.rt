@@ -1,28 +1,30 @@
 // Names in quotes, and the names of notes.
 use super::hex;
 use super::number;
+use super::output::Output;
 use super::put;
+use util::groups::at;
 ghost use Prim.Native.Nat.{_≤_};
 ghost use lib.ListN.{length};
 
-// Writes a byte of a name: a printable one as it stands, another as its hexadecimal digits.
-fn put_char(b: u8) {
+// Puts a byte of a name: a printable one as it stands, another as its hexadecimal digits.
+fn put_char(out: &mut Output, b: u8) {
     if b < 32 {
-        put(b"\\x");
-        return hex(b);
+        put(out, b"\\x");
+        return hex(out, b);
     }
     if 126 < b {
-        put(b"\\x");
-        return hex(b);
+        put(out, b"\\x");
+        return hex(out, b);
     }
-    put(&[b]);
+    put(out, &[b]);
 }
 
-// Writes the bytes of a name.
-fn put_chars(s: &[u8]) {
+// Puts the bytes of a name.
+fn put_chars(out: &mut Output, s: &[u8]) {
     let mut i = 0;
     while i < s.len() {
-        put_char(s[i]);
+        put_char(out, s[i]);
         i += 1;
     }
 }
@@ -41,42 +43,76 @@ fn without_spaces(s: &[u8]) -> usize
     n
 }
 
-// Writes a name in quotes, without the spaces at its end.
-pub fn quoted(s: &[u8]) {
+// Puts a name in quotes, without the spaces at its end.
+pub fn quoted(out: &mut Output, s: &[u8]) {
     let n = without_spaces(s);
-    put(b"\"");
-    put_chars(&s[0..n]);
-    put(b"\"");
+    put(out, b"\"");
+    put_chars(out, &s[0..n]);
+    put(out, b"\"");
 }
 
-// Writes four bytes in quotes.
-pub fn quoted_four(a: u8, b: u8, c: u8, d: u8) {
-    quoted(&[a, b, c, d]);
+// Puts four bytes in quotes.
+pub fn quoted_four(out: &mut Output, a: u8, b: u8, c: u8, d: u8) {
+    quoted(out, &[a, b, c, d]);
 }
 
-// Writes the name of one of the twelve notes, C first.
-pub fn note(n: u8) {
+// Puts the name of one of the twelve notes, C first.
+pub fn note(out: &mut Output, n: u8) {
     match n {
-        0 => put(b"C"),
-        1 => put(b"C#"),
-        2 => put(b"D"),
-        3 => put(b"D#"),
-        4 => put(b"E"),
-        5 => put(b"F"),
-        6 => put(b"F#"),
-        7 => put(b"G"),
-        8 => put(b"G#"),
-        9 => put(b"A"),
-        10 => put(b"A#"),
-        _ => put(b"B"),
+        0 => put(out, b"C"),
+        1 => put(out, b"C#"),
+        2 => put(out, b"D"),
+        3 => put(out, b"D#"),
+        4 => put(out, b"E"),
+        5 => put(out, b"F"),
+        6 => put(out, b"F#"),
+        7 => put(out, b"G"),
+        8 => put(out, b"G#"),
+        9 => put(out, b"A"),
+        10 => put(out, b"A#"),
+        _ => put(out, b"B"),
     }
 }
 
-// Writes the name of a key with its octave: key 60 is C4.
-pub fn key(k: u8) {
-    note(k % 12);
+// Puts the name of a key with its octave: key 60 is C4.
+pub fn key(out: &mut Output, k: u8) {
+    note(out, k % 12);
     if k < 12 {
-        return put(b"-1");
+        return put(out, b"-1");
     }
-    number((k / 12 - 1) as u64);
+    number(out, (k / 12 - 1) as u64);
+}
+
+// Whether the byte at a place is a control character: of ASCII, or the second byte of one of UTF-8's.
+fn is_control(s: &[u8], i: usize) -> bool {
+    let b = at(s, i);
+    if b < 32 {
+        return true;
+    }
+    if b == 127 {
+        return true;
+    }
+    if 128 <= b && b < 160 && 0 < i {
+        return at(s, i - 1) == 0xC2;
+    }
+    false
+}
+
+// Puts a byte of a file's name: a control character as its hexadecimal digits.
+fn put_path_char(out: &mut Output, s: &[u8], i: usize) {
+    let b = at(s, i);
+    if is_control(s, i) {
+        put(out, b"\\x");
+        return hex(out, b);
+    }
+    put(out, &[b]);
+}
+
+// Puts the name of a file.
+pub fn path(out: &mut Output, s: &[u8]) {
+    let mut i = 0;
+    while i < s.len() {
+        put_path_char(out, s, i);
+        i += 1;
+    }
 }

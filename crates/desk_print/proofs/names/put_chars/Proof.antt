@@ -1,35 +1,43 @@
--- `desk_print::names::put_chars` is safe and ends. The invariant: the place is within the bytes.
--- Assumes nothing.
-use lib.ListN.{length}
 use Prim.Native.Nat.{_≤_, _-_}
+use lib.ListN.{length}
 use borrow.Author.Needs.{needs}
 use Rattle.desk_print.proofs.names.put_chars.Statement.{statement}
 use Rattle.desk_print.proofs.names.put_chars.Tie as tie
+use Rattle.desk_print.proofs.names.put_chars.Reads as reads
+use Rattle.desk_print.proofs.names.put_chars.Lts as lts
+use Rattle.desk_print.proofs.names.put_char.Reads as put-char-reads
 
 abbrev Inv-loop : tie.InvT-loop
-Inv-loop s i₀ i = i ≤ length s
+Inv-loop out₀ s i₀ out i = i ≤ length s
 
 abbrev μ-loop : tie.MeasureT-loop
-μ-loop s i₀ i = length s - i
+μ-loop out₀ s i₀ out i = length s - i
 
+-- src/names.rt:26:5
 loop-holds : tie.Need-loop-holds Inv-loop μ-loop
 loop-holds c = search needs
 
+-- src/names.rt:27:23
 shared-slice-read-put-char : tie.Need-shared-slice-read-put-char Inv-loop μ-loop
 shared-slice-read-put-char c = search needs
 
+-- src/names.rt:27:9
 put-char-requires : tie.Need-put-char-requires Inv-loop μ-loop
 put-char-requires c κs = search needs
 
+-- src/names.rt:28:9
 add-i : tie.Need-add-i Inv-loop μ-loop
 add-i c = search needs
 
+-- src/names.rt:26:5
 loop-less : tie.Need-loop-less Inv-loop μ-loop
 loop-less c = search needs
 
+-- src/names.rt:26:5
 loop-again : tie.Need-loop-again Inv-loop μ-loop
 loop-again c = search needs
 
+-- src/names.rt:24:1
 returns : tie.Need-returns Inv-loop μ-loop
 returns c = search needs
 

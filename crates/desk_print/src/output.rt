@@ -1,0 +1,160 @@
+// Standard output, gathered and written out in large pieces; error lines, each behind what was put before it.
+use super::names;
+use super::number;
+use super::put;
+use libc::STDOUT_FILENO;
+ghost use mathlib.Core.Path.{_≡_};
+ghost use Prim.Native.Nat.{_+_, _≤_};
+ghost use lib.ListN.{length};
+ghost use Rattle.util.specs.Splice.{splice};
+
+// The bytes that are gathered at most.
+pub const ROOM: usize = 65535;
+
+// The gathered bytes; behind them two bytes that say how many there are, one that is not 0 once a write has failed, and one that names the
+// file of error lines.
+pub type Output = [u8; 65539];
+
+// An output with nothing gathered; error lines go to an open file.
+pub fn new(errors: u8) -> Output
+    ensures { λ r. ⌜ 65539 ≡ length r ⌝ }
+{
+    let mut out = [0; 65539];
+    out[65538] = errors;
+    out
+}
+
+// A byte as a wider number.
+fn wide(x: u8) -> usize
+    ensures { λ r. ⌜ (r ≡ x) × (r ≤ 255) ⌝ }
+{
+    x as usize
+}
+
+// How many bytes are gathered.
+fn count(out: &Output) -> usize
+    ensures { λ r. ⌜ r ≤ 65535 ⌝ }
+{
+    wide(out[65535]) + wide(out[65536]) * 256
+}
+
+// Says how many bytes are gathered.
+fn set_count(out: &mut Output, n: usize)
+    requires { ⌜ n ≤ 65535 ⌝ }
+{
+    out[65535] = (n % 256) as u8;
+    out[65536] = (n / 256) as u8;
+}
+
+// Whether a write has failed.
+pub fn is_failed(out: &Output) -> bool {
+    out[65537] != 0
+}
+
+// The open file of error lines.
+fn errors(out: &Output) -> i32 {
+    if out[65538] == 1 {
+        libc::STDOUT_FILENO
+    } else {
+        libc::STDERR_FILENO
+    }
+}
+
+// Writes the first n bytes to an open file.
+fn write_first(fd: i32, s: &[u8], n: usize) -> bool {
+    io::write_all(fd, util::bytes::sub_slice(s, 0, n))
+}
+
+// Remembers that a write has failed, and says so.
+fn fail(out: &mut Output) {
+    out[65537] = 1;
+    io::write_all(
+        errors(out),
+        b"standard output: cannot be written (is the disk full?)\n",
+    );
+}
+
+// Writes out what is gathered.
+pub fn flush(out: &mut Output) {
+    let n = count(out);
+    set_count(out, 0);
+    if is_failed(out) {
+        return;
+    }
+    if !write_first(STDOUT_FILENO, out, n) {
+        fail(out);
+    }
+}
+
+// Puts bytes at a place.
+fn place(room: &mut [u8], at: usize, text: &[u8])
+    requires { ⌜ at + length (now text) ≤ length (now room) ⌝ }
+    ensures { λ _. ⌜ now (room .exit) ≡ splice (now (room .entry)) at (now (text .entry)) ⌝ }
+{
+    util::bytes::copy(&mut room[at..], text);
+}
+
+// Gathers bytes behind those that are there, where there is room; whether there is.
+fn gather(out: &mut Output, text: &[u8]) -> bool {
+    let n = count(out);
+    if ROOM - n < text.len() {
+        return false;
+    }
+    place(out, n, text);
+    set_count(out, n + text.len());
+    true
+}
+
+// Writes out bytes that are too many to be gathered.
+fn send(out: &mut Output, text: &[u8]) {
+    if is_failed(out) {
+        return;
+    }
+    if !io::write_all(STDOUT_FILENO, text) {
+        fail(out);
+    }
+}
+
+// Gathers bytes, after what is gathered is written out, where there is no room for them.
+pub fn add(out: &mut Output, text: &[u8]) {
+    if gather(out, text) {
+        return;
+    }
+    flush(out);
+    if !gather(out, text) {
+        send(out, text);
+    }
+}
+
+// Begins an error line, behind all that was put before it.
+fn begin_line(out: &mut Output, what: &[u8]) {
+    flush(out);
+    names::path(out, what);
+    put(out, b": ");
+}
+
+// Writes an error line.
+fn end_line(out: &mut Output) {
+    put(out, b"\n");
+    let n = count(out);
+    set_count(out, 0);
+    if !is_failed(out) {
+        write_first(errors(out), out, n);
+    }
+}
+
+// Writes an error line: what it is about, and what is to be said of it.
+pub fn complain(out: &mut Output, what: &[u8], why: &[u8]) {
+    begin_line(out, what);
+    put(out, why);
+    end_line(out);
+}
+
+// The same with a number between two texts.
+pub fn complain_number(out: &mut Output, what: &[u8], before: &[u8], n: u64, after: &[u8]) {
+    begin_line(out, what);
+    put(out, before);
+    number(out, n);
+    put(out, after);
+    end_line(out);
+}
