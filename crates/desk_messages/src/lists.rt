@@ -5,6 +5,7 @@ use desk_print::fields::Style;
 use desk_print::hex_all;
 use desk_print::names;
 use desk_print::number;
+use desk_print::output::Output;
 use desk_print::put;
 use messages::file_reference::SoundFileMap;
 use messages::tuning::KeyTuning;
@@ -34,98 +35,101 @@ fn from_key(key: u8, t: Tuning) -> Signed
     )
 }
 
-// Writes a tuning: its semitone, the cents above it, the difference from equal temperament.
-fn put_tuning(key: u8, t: Tuning) {
-    put(b" semitone ");
-    number(wide(t.semitone));
-    put(b" ");
-    cents::decimals(Signed {
-        is_below: false,
-        amount: cents::ten_thousandths(t.fraction as u64, 16384),
-    });
-    put(b" cents, ");
-    cents::decimals(cents::in_cents(from_key(key, t), 16384));
-    put(b" from equal temperament\n");
+// Puts a tuning: its semitone, the cents above it, the difference from equal temperament.
+fn put_tuning(out: &mut Output, key: u8, t: Tuning) {
+    put(out, b" semitone ");
+    number(out, wide(t.semitone));
+    put(out, b" ");
+    cents::decimals(
+        out,
+        Signed {
+            is_below: false,
+            amount: cents::ten_thousandths(t.fraction as u64, 16384),
+        },
+    );
+    put(out, b" cents, ");
+    cents::decimals(out, cents::in_cents(from_key(key, t), 16384));
+    put(out, b" from equal temperament\n");
 }
 
 // A line for a key: its number, its name, its tuning.
-fn key_line(key: u8, tuning: MaybeTuning) {
-    number(wide(key));
-    put(b" ");
-    names::key(key);
+fn key_line(out: &mut Output, key: u8, tuning: MaybeTuning) {
+    number(out, wide(key));
+    put(out, b" ");
+    names::key(out, key);
     match tuning {
-        MaybeTuning::NoTuning => put(b" -\n"),
-        MaybeTuning::Tuned(t) => put_tuning(key, t),
+        MaybeTuning::NoTuning => put(out, b" -\n"),
+        MaybeTuning::Tuned(t) => put_tuning(out, key, t),
     }
 }
 
 // The lines of a key dump.
-pub fn keys(entries: &[u64]) {
+pub fn keys(out: &mut Output, entries: &[u64]) {
     let mut i = 0;
     while i < entries.len() {
         if KEYS <= i {
             return;
         }
-        key_line(i as u8, MaybeTuning::from_entry(entries[i]));
+        key_line(out, i as u8, MaybeTuning::from_entry(entries[i]));
         i += 1;
     }
 }
 
 // The line of a note change.
-fn change_line(entry: u64) {
+fn change_line(out: &mut Output, entry: u64) {
     let c = KeyTuning::from_entry(entry);
     let tuning = c.tuning;
-    key_line(c.key, tuning);
+    key_line(out, c.key, tuning);
 }
 
 // The lines of a note change.
-pub fn changes(entries: &[u64]) {
+pub fn changes(out: &mut Output, entries: &[u64]) {
     let mut i = 0;
     while i < entries.len() {
-        change_line(entries[i]);
+        change_line(out, entries[i]);
         i += 1;
     }
 }
 
-// Writes drums, where a map is of drums.
-fn put_drums(is_drum: bool) {
+// Puts drums, where a map is of drums.
+fn put_drums(out: &mut Output, is_drum: bool) {
     if is_drum {
-        put(b" drums");
+        put(out, b" drums");
     }
 }
 
 // The line of a map of a sound file.
-fn map_line(entry: u64) {
+fn map_line(out: &mut Output, entry: u64) {
     let m = SoundFileMap::from_entry(entry);
-    put(b"map: bank ");
-    number(m.src_bank as u64);
-    put(b" program ");
-    number(m.src_prog as u64);
-    put_drums(m.src_drum);
-    put(b" to bank ");
-    number(m.dst_bank as u64);
-    put(b" program ");
-    number(m.dst_prog as u64);
-    put_drums(m.dst_drum);
-    put(b", volume ");
-    number(m.volume as u64);
-    put(b"\n");
+    put(out, b"map: bank ");
+    number(out, m.src_bank as u64);
+    put(out, b" program ");
+    number(out, m.src_prog as u64);
+    put_drums(out, m.src_drum);
+    put(out, b" to bank ");
+    number(out, m.dst_bank as u64);
+    put(out, b" program ");
+    number(out, m.dst_prog as u64);
+    put_drums(out, m.dst_drum);
+    put(out, b", volume ");
+    number(out, m.volume as u64);
+    put(out, b"\n");
 }
 
 // The lines of the maps of a sound file.
-pub fn maps(entries: &[u64]) {
+pub fn maps(out: &mut Output, entries: &[u64]) {
     let mut i = 0;
     while i < entries.len() {
-        map_line(entries[i]);
+        map_line(out, entries[i]);
         i += 1;
     }
 }
 
 // The bytes of a file packet in a line.
-pub fn data(s: &[u8]) {
-    put(b"data:");
-    hex_all(s);
-    put(b"\n");
+pub fn data(out: &mut Output, s: &[u8]) {
+    put(out, b"data:");
+    hex_all(out, s);
+    put(out, b"\n");
 }
 
 // A signed value of one group.
@@ -142,82 +146,82 @@ fn signed_2(v: i16) -> Signed
     cents::difference(8192, signed::i_to_u14(v) as u64)
 }
 
-// Writes a signed value of two groups, in 8,192nds of a semitone, in cents.
-fn put_cents_2(v: i16) {
-    cents::decimals(cents::in_cents(signed_2(v), 8192));
-    put(b" cents\n");
+// Puts a signed value of two groups, in 8,192nds of a semitone, in cents.
+fn put_cents_2(out: &mut Output, v: i16) {
+    cents::decimals(out, cents::in_cents(signed_2(v), 8192));
+    put(out, b" cents\n");
 }
 
 // The fine tuning of a WAV map, where every field has a line.
-pub fn fine(style: Style, v: i16) {
+pub fn fine(out: &mut Output, style: Style, v: i16) {
     match style {
         Style::Line => {}
         Style::Lines => {
-            put(b"fine tuning: ");
-            put_cents_2(v);
+            put(out, b"fine tuning: ");
+            put_cents_2(out, v);
         }
     }
 }
 
 // A line for a note of a scale of one byte a note.
-fn note_1(note: u8, v: i8) {
-    names::note(note);
-    put(b": ");
-    cents::whole(signed_1(v));
-    put(b" cents\n");
+fn note_1(out: &mut Output, note: u8, v: i8) {
+    names::note(out, note);
+    put(out, b": ");
+    cents::whole(out, signed_1(v));
+    put(out, b" cents\n");
 }
 
 // A line for a note of a scale of two bytes a note.
-fn note_2(note: u8, v: i16) {
-    names::note(note);
-    put(b": ");
-    put_cents_2(v);
+fn note_2(out: &mut Output, note: u8, v: i16) {
+    names::note(out, note);
+    put(out, b": ");
+    put_cents_2(out, v);
 }
 
 // The twelve lines of a scale of one byte a note.
-fn notes_1(t: Scale1Byte) {
-    note_1(0, t.c);
-    note_1(1, t.c_sharp);
-    note_1(2, t.d);
-    note_1(3, t.d_sharp);
-    note_1(4, t.e);
-    note_1(5, t.f);
-    note_1(6, t.f_sharp);
-    note_1(7, t.g);
-    note_1(8, t.g_sharp);
-    note_1(9, t.a);
-    note_1(10, t.a_sharp);
-    note_1(11, t.b);
+fn notes_1(out: &mut Output, t: Scale1Byte) {
+    note_1(out, 0, t.c);
+    note_1(out, 1, t.c_sharp);
+    note_1(out, 2, t.d);
+    note_1(out, 3, t.d_sharp);
+    note_1(out, 4, t.e);
+    note_1(out, 5, t.f);
+    note_1(out, 6, t.f_sharp);
+    note_1(out, 7, t.g);
+    note_1(out, 8, t.g_sharp);
+    note_1(out, 9, t.a);
+    note_1(out, 10, t.a_sharp);
+    note_1(out, 11, t.b);
 }
 
 // The twelve lines of a scale of two bytes a note.
-fn notes_2(t: Scale2Byte) {
-    note_2(0, t.c);
-    note_2(1, t.c_sharp);
-    note_2(2, t.d);
-    note_2(3, t.d_sharp);
-    note_2(4, t.e);
-    note_2(5, t.f);
-    note_2(6, t.f_sharp);
-    note_2(7, t.g);
-    note_2(8, t.g_sharp);
-    note_2(9, t.a);
-    note_2(10, t.a_sharp);
-    note_2(11, t.b);
+fn notes_2(out: &mut Output, t: Scale2Byte) {
+    note_2(out, 0, t.c);
+    note_2(out, 1, t.c_sharp);
+    note_2(out, 2, t.d);
+    note_2(out, 3, t.d_sharp);
+    note_2(out, 4, t.e);
+    note_2(out, 5, t.f);
+    note_2(out, 6, t.f_sharp);
+    note_2(out, 7, t.g);
+    note_2(out, 8, t.g_sharp);
+    note_2(out, 9, t.a);
+    note_2(out, 10, t.a_sharp);
+    note_2(out, 11, t.b);
 }
 
 // The twelve lines, where every field has a line.
-pub fn scale_1(style: Style, t: Scale1Byte) {
+pub fn scale_1(out: &mut Output, style: Style, t: Scale1Byte) {
     match style {
         Style::Line => {}
-        Style::Lines => notes_1(t),
+        Style::Lines => notes_1(out, t),
     }
 }
 
 // The twelve lines, where every field has a line.
-pub fn scale_2(style: Style, t: Scale2Byte) {
+pub fn scale_2(out: &mut Output, style: Style, t: Scale2Byte) {
     match style {
         Style::Line => {}
-        Style::Lines => notes_2(t),
+        Style::Lines => notes_2(out, t),
     }
 }

@@ -3,6 +3,7 @@ use super::grouped;
 use super::names;
 use super::output::Output;
 use super::put;
+use super::units;
 
 // One line with the main fields, or a line for each field.
 pub enum Style {
@@ -68,6 +69,13 @@ pub fn measure(out: &mut Output, style: Style, label: &[u8], n: u64, unit: &[u8]
     begin_plain(out, style, label);
     grouped(out, n);
     put(out, unit);
+    end(out, style);
+}
+
+// How many there are of a unit, not named in a line.
+pub fn counted(out: &mut Output, style: Style, label: &[u8], n: u64, unit: &[u8]) {
+    begin_plain(out, style, label);
+    units(out, n, unit);
     end(out, style);
 }
 

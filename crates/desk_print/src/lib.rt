@@ -70,6 +70,16 @@ pub fn grouped(out: &mut Output, n: u64) {
     comma_three(out, n);
 }
 
+// Puts a number with its unit, in the plural but for 1.
+pub fn units(out: &mut Output, n: u64, unit: &[u8]) {
+    grouped(out, n);
+    put(out, b" ");
+    put(out, unit);
+    if n != 1 {
+        put(out, b"s");
+    }
+}
+
 // The hexadecimal digit of a number below sixteen.
 fn hex_digit(n: u8) -> u8
     requires { ⌜ n < 16 ⌝ }
