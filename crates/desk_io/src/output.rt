@@ -1,23 +1,44 @@
-// Output files: made where there is none, whole or not left.
-use desk_print::complain;
+// Output files: made where there is none, whole or not left. The name - is standard output.
+use super::names::is_dash;
+use desk_print::names;
 use desk_print::number;
+use desk_print::output;
+use desk_print::output::Output;
+use desk_print::output::complain;
 use desk_print::put;
+use libc::STDOUT_FILENO;
 
 // Makes a file for writing; a negative number, and a line that says why, where that fails.
-pub fn create(path: &[u8], errors: i32) -> i32 {
+pub fn create(out: &mut Output, path: &[u8]) -> i32 {
+    if is_dash(path) {
+        return STDOUT_FILENO;
+    }
     let fd = os::create(path);
     if fd < 0 {
         if os::errno() == libc::EEXIST {
-            complain(errors, path, b"is there already, and is left as it is");
+            complain(out, path, b"is there already, and is left as it is");
         } else {
-            complain(errors, path, b"cannot be made");
+            complain(out, path, b"cannot be made");
         }
     }
     fd
 }
 
+// Writes bytes to a file that was made; whether they are written.
+pub fn write(out: &mut Output, fd: i32, bytes: &[u8]) -> bool {
+    if fd == STDOUT_FILENO {
+        put(out, bytes);
+        return !output::is_failed(out);
+    }
+    io::write_all(fd, bytes)
+}
+
 // Closes a file, and removes it where it is not whole; whether it is there and whole.
-pub fn finish(fd: i32, path: &[u8], is_whole: bool) -> bool {
+pub fn finish(out: &mut Output, fd: i32, path: &[u8], is_whole: bool) -> bool {
+    if fd == STDOUT_FILENO {
+        output::flush(out);
+        return is_whole && !output::is_failed(out);
+    }
     if libc::close(fd) == 0 {
         if is_whole {
             return true;
@@ -27,33 +48,47 @@ pub fn finish(fd: i32, path: &[u8], is_whole: bool) -> bool {
     false
 }
 
-// Says that a file could not be written.
-pub fn unwritten(path: &[u8], errors: i32) {
-    complain(
-        errors,
-        path,
-        b"could not be written (is the disk full?), and is not left",
-    );
+// Says that a file could not be written; of standard output that is told already.
+pub fn unwritten(out: &mut Output, path: &[u8]) {
+    if !is_dash(path) {
+        complain(
+            out,
+            path,
+            b"could not be written (is the disk full?), and is not left",
+        );
+    }
 }
 
-// Says how many bytes a file got.
-pub fn written(path: &[u8], count: u64) {
-    put(path);
-    put(b": ");
-    number(count);
-    put(b" bytes written\n");
+// Puts bytes or a byte, behind their number.
+fn put_bytes(out: &mut Output, n: u64) {
+    if n == 1 {
+        return put(out, b" byte written");
+    }
+    put(out, b" bytes written");
 }
 
-// Writes bytes as a new file.
-pub fn save(path: &[u8], bytes: &[u8], errors: i32) {
-    let fd = create(path, errors);
+// Says how many bytes a file got, without a line end; nothing of standard output. Whether it is said.
+pub fn written(out: &mut Output, path: &[u8], count: u64) -> bool {
+    if is_dash(path) {
+        return false;
+    }
+    names::path(out, path);
+    put(out, b": ");
+    number(out, count);
+    put_bytes(out, count);
+    true
+}
+
+// Writes bytes as a new file, and says so without a line end; whether it is said.
+pub fn save(out: &mut Output, path: &[u8], bytes: &[u8]) -> bool {
+    let fd = create(out, path);
     if fd < 0 {
-        return;
+        return false;
     }
-    let is_whole = io::write_all(fd, bytes);
-    if finish(fd, path, is_whole) {
-        written(path, bytes.len() as u64);
-    } else {
-        unwritten(path, errors);
+    let is_whole = write(out, fd, bytes);
+    if finish(out, fd, path, is_whole) {
+        return written(out, path, bytes.len() as u64);
     }
+    unwritten(out, path);
+    false
 }

@@ -1,5 +1,7 @@
 // A file read in pieces that overlap.
-use desk_print::complain;
+use super::names::complain;
+use super::names::is_dash;
+use desk_print::output::Output;
 use util::limits::MOST_STREAM;
 ghost use mathlib.Core.Path.{_≡_};
 ghost use Prim.Native.Nat.{ℕ, _+_, _-_, _≤_, _<_};
@@ -117,39 +119,77 @@ pub fn next(fd: i32, room: &mut [u8], p: Piece, at: usize) -> Piece
 }
 
 // Says why a file cannot be opened or read.
-pub fn unreadable(path: &[u8], errors: i32) {
+pub fn unreadable(out: &mut Output, path: &[u8]) {
     let error = os::errno();
     if error == libc::ENOENT {
-        return complain(errors, path, b"there is no such file");
+        return complain(out, path, b"there is no such file");
     }
     if error == libc::EISDIR {
-        return complain(errors, path, b"is a directory, not a file");
+        return complain(out, path, b"is a directory, not a file");
     }
     if error == libc::EACCES {
-        return complain(errors, path, b"may not be read");
+        return complain(out, path, b"may not be read");
     }
-    complain(errors, path, b"cannot be read");
+    complain(out, path, b"cannot be read");
 }
 
 // Opens a file for reading; a negative number, and a line that says why, where that fails.
-pub fn open(path: &[u8], errors: i32) -> i32 {
+pub fn open(out: &mut Output, path: &[u8]) -> i32 {
+    if is_dash(path) {
+        return libc::STDIN_FILENO;
+    }
     let fd = os::open_read(path);
     if fd < 0 {
-        unreadable(path, errors);
+        unreadable(out, path);
     }
     fd
 }
 
-// Goes to an offset of an open file; whether that was done.
-pub fn seek(fd: i32, offset: u64) -> bool {
+// Closes a file that was read; standard input stays open.
+pub fn close(fd: i32) {
+    if fd != libc::STDIN_FILENO {
+        libc::close(fd);
+    }
+}
+
+// Reads so many bytes of the file and drops them; whether there are as many.
+fn pass(fd: i32, room: &mut [u8], count: u64) -> bool {
+    let mut left = count;
+    while 0 < left {
+        let got = read_some(fd, room, left);
+        if got == 0 {
+            return false;
+        }
+        left -= got as u64;
+    }
+    true
+}
+
+// Reads up to so many bytes of the file; how many they are, none at the end or where reading fails.
+fn read_some(fd: i32, room: &mut [u8], most: u64) -> usize
+    ensures { λ r. ⌜ r ≤ most ⌝ }
+{
+    let n = util::groups::hold(most, room.len() as u64) as usize;
+    read_once(fd, &mut room[0..n]).count
+}
+
+// Goes to an offset of a file that nothing was read of yet, by reading where the file has no positions; whether that was done.
+pub fn seek(fd: i32, room: &mut [u8], offset: u64) -> bool {
     if 4611686018427387903 < offset {
         return false;
     }
-    0 <= libc::lseek(fd, offset as i64, libc::SEEK_SET)
+    if 0 <= libc::lseek(fd, offset as i64, libc::SEEK_SET) {
+        return true;
+    }
+    pass(fd, room, offset)
 }
 
-// Says on standard error how far a long file is read.
-pub fn progress(base: u64) {
+// Says on standard error how far a long file is read, where that is a terminal.
+pub fn progress(out: &mut Output, base: u64) {
+    if libc::isatty(libc::STDERR_FILENO) != 1 {
+        return;
+    }
+    desk_print::output::flush(out);
     io::print_decimal(libc::STDERR_FILENO, base / 1000000);
     io::write_all(libc::STDERR_FILENO, b" million bytes read\n");
 }

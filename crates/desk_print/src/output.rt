@@ -127,14 +127,14 @@ pub fn add(out: &mut Output, text: &[u8]) {
 }
 
 // Begins an error line, behind all that was put before it.
-fn begin_line(out: &mut Output, what: &[u8]) {
+pub fn begin_line(out: &mut Output, what: &[u8]) {
     flush(out);
     names::path(out, what);
     put(out, b": ");
 }
 
 // Writes an error line.
-fn end_line(out: &mut Output) {
+pub fn end_line(out: &mut Output) {
     put(out, b"\n");
     let n = count(out);
     set_count(out, 0);
