@@ -7,18 +7,21 @@ use desk_io::output;
 use desk_io::pieces;
 use desk_io::pieces::PIECE;
 use desk_io::pieces::Piece;
+use desk_print::output::Output;
+use desk_print::put;
 use messages::file_dump::FileDumpMsg;
 use messages::file_reference::Kind;
 use messages::system_exclusive::UniversalNonRealTimeMsg;
 use reader::lent::Reading;
 use util::limits::KEYS;
 use util::limits::MOST_DATA;
+use util::refusal::Refusal;
 use walk::Walked;
 ghost use Prim.Native.Nat.{_≤_};
 ghost use lib.ListN.{length};
 
 // Reads a frame, and joins it to what is there.
-fn join_frame(frame: &[u8], kind: Kind, out: i32, j: Joined) -> Joined {
+fn join_frame(out: &mut Output, frame: &[u8], kind: Kind, to: i32, j: Joined) -> Joined {
     let mut data = [0u8; MOST_DATA];
     let mut entries = [0u64; KEYS];
     match reader::read(frame, kind, &mut data, &mut entries) {
@@ -28,24 +31,40 @@ fn join_frame(frame: &[u8], kind: Kind, out: i32, j: Joined) -> Joined {
             from: _,
             len: _,
             places,
-        } => j.message(out, m, util::bytes::sub_slice(&data, 0, places)),
+        } => j.message(out, to, m, util::bytes::sub_slice(&data, 0, places)),
         Reading::Refused(_) => j,
     }
 }
 
 // Joins the frame of a pair of the index, where it begins before the next piece and one is wanted.
-fn join_pair(s: &[u8], offset: usize, len: usize, kind: Kind, out: i32, j: Joined) -> Joined {
+fn join_pair(
+    out: &mut Output,
+    s: &[u8],
+    offset: usize,
+    len: usize,
+    kind: Kind,
+    to: i32,
+    j: Joined,
+) -> Joined {
     if j.is_done() {
         return j;
     }
     if offset < pieces::next_start(s.len()) {
-        return join_frame(util::bytes::sub_slice(s, offset, len), kind, out, j);
+        return join_frame(out, util::bytes::sub_slice(s, offset, len), kind, to, j);
     }
     j
 }
 
 // Joins the frames of an index of n pairs.
-fn join_index(s: &[u8], index: &[u32], n: usize, kind: Kind, out: i32, j: Joined) -> Joined {
+fn join_index(
+    out: &mut Output,
+    s: &[u8],
+    index: &[u32],
+    n: usize,
+    kind: Kind,
+    to: i32,
+    j: Joined,
+) -> Joined {
     let mut joined = j;
     let mut i = 0;
     while i < n {
@@ -53,11 +72,12 @@ fn join_index(s: &[u8], index: &[u32], n: usize, kind: Kind, out: i32, j: Joined
             return joined;
         }
         joined = join_pair(
+            out,
             s,
             list::place(index, i * 2),
             list::place(index, i * 2 + 1),
             kind,
-            out,
+            to,
             joined,
         );
         i += 1;
@@ -66,9 +86,16 @@ fn join_index(s: &[u8], index: &[u32], n: usize, kind: Kind, out: i32, j: Joined
 }
 
 // Joins the frames of a piece.
-fn join_piece(s: &[u8], kind: Kind, index: &mut [u32], out: i32, j: Joined) -> Joined {
+fn join_piece(
+    out: &mut Output,
+    s: &[u8],
+    kind: Kind,
+    index: &mut [u32],
+    to: i32,
+    j: Joined,
+) -> Joined {
     match walk::walk(s, kind, index) {
-        Walked::Frames(n) => join_index(s, index, n, kind, out, j),
+        Walked::Frames(n) => join_index(out, s, index, n, kind, to, j),
         Walked::Refused(_, _) => j,
     }
 }
@@ -82,11 +109,12 @@ pub struct Joining {
 
 // Joins the frames of a piece, and reads the next one.
 fn step(
+    out: &mut Output,
     fd: i32,
     kind: Kind,
     room: &mut [u8],
     index: &mut [u32],
-    out: i32,
+    to: i32,
     p: Piece,
     j: Joined,
 ) -> Joining
@@ -94,7 +122,7 @@ fn step(
     ensures { λ r. ⌜ r .piece .len ≤ length (now (room .entry)) ⌝ }
 {
     let len = p.len;
-    let joined = join_piece(&room[0..len], kind, index, out, j);
+    let joined = join_piece(out, &room[0..len], kind, index, to, j);
     if joined.is_done() {
         return Joining {
             piece: p,
@@ -117,9 +145,18 @@ fn step(
     }
 }
 
-// Joins the packets of an open file from its place on, piece by piece; the turns are counted down from a number that no run uses up.
-fn join_open(fd: i32, kind: Kind, room: &mut [u8], index: &mut [u32], out: i32) -> Joined {
-    let first = pieces::first(fd, room, 0);
+// Joins the packets of an open file from its first piece on; the turns are counted down from a number that no run uses up.
+fn join_pieces(
+    out: &mut Output,
+    fd: i32,
+    kind: Kind,
+    room: &mut [u8],
+    index: &mut [u32],
+    to: i32,
+    first: Piece,
+) -> Joined
+    requires { ⌜ first .len ≤ length (now room) ⌝ }
+{
     let mut s = Joining {
         piece: first,
         joined: Joined::none(),
@@ -135,44 +172,48 @@ fn join_open(fd: i32, kind: Kind, room: &mut [u8], index: &mut [u32], out: i32) 
         }
         let piece = s.piece;
         let joined = s.joined;
-        s = step(fd, kind, room, index, out, piece, joined);
+        s = step(out, fd, kind, room, index, to, piece, joined);
         turns -= 1;
     }
     s.joined
 }
 
-// Joins the packets of an open file into a new file.
-fn join_into(fd: i32, path: &[u8], kind: Kind, to: &[u8], errors: i32) {
-    let out = output::create(to, errors);
-    if out < 0 {
-        return;
-    }
-    let mut room = io::large_buffer();
-    let mut index = [0u32; 21844];
-    let j = join_open(fd, kind, &mut room[0..PIECE], &mut index, out);
-    let is_whole = j.is_whole();
-    if !is_whole {
-        j.explain(path, errors);
-    }
-    if output::finish(out, to, is_whole) {
-        output::written(to, j.total);
-    } else {
-        if is_whole {
-            output::unwritten(to, errors);
-        }
+// Says how many bytes a file got.
+fn tell_written(out: &mut Output, path: &[u8], count: u64) {
+    if output::written(out, path, count) {
+        put(out, b"\n");
     }
 }
 
-// Joins the packets of a file from an offset on into a new file.
-fn join_file(path: &[u8], kind: Kind, offset: u64, to: &[u8], errors: i32) {
-    let fd = pieces::open(path, errors);
-    if fd < 0 {
+// Joins the packets of an open file from its first piece on into a new file.
+fn join_into(
+    out: &mut Output,
+    fd: i32,
+    path: &[u8],
+    kind: Kind,
+    room: &mut [u8],
+    first: Piece,
+    to: &[u8],
+)
+    requires { ⌜ first .len ≤ length (now room) ⌝ }
+{
+    let made = output::create(out, to);
+    if made < 0 {
         return;
     }
-    if pieces::seek(fd, offset) {
-        join_into(fd, path, kind, to, errors);
+    let mut index = [0u32; 21844];
+    let j = join_pieces(out, fd, kind, room, &mut index, made, first);
+    let is_whole = j.is_whole();
+    if !is_whole {
+        j.explain(out, path, to);
     }
-    libc::close(fd);
+    if output::finish(out, made, to, is_whole) {
+        tell_written(out, to, j.total);
+    } else {
+        if is_whole {
+            output::unwritten(out, to);
+        }
+    }
 }
 
 // Whether a file dump's packets begin with a message.
@@ -192,11 +233,16 @@ fn is_file(m: UniversalNonRealTimeMsg) -> bool {
     }
 }
 
-// Extracts what begins with a stretch.
-fn extract_from(frame: &[u8], path: &[u8], kind: Kind, offset: u64, to: &[u8], errors: i32) {
-    let mut data = [0u8; MOST_DATA];
-    let mut entries = [0u64; KEYS];
-    match reader::read(frame, kind, &mut data, &mut entries) {
+// What a stretch is for extracting: the begin of a file dump, another frame, or none for a reason.
+pub enum Found {
+    File,
+    Frame,
+    Refused(Refusal),
+}
+
+// What a stretch is.
+fn found_in(stretch: &[u8], kind: Kind) -> Found {
+    match reader::examine(stretch, kind) {
         Reading::Frame {
             device: _,
             m,
@@ -205,25 +251,72 @@ fn extract_from(frame: &[u8], path: &[u8], kind: Kind, offset: u64, to: &[u8], e
             places: _,
         } => {
             if is_file(m) {
-                join_file(path, kind, offset, to, errors);
+                Found::File
             } else {
-                output::save(to, frame, errors);
+                Found::Frame
             }
         }
-        Reading::Refused(r) => frames::refused(frame, offset, r),
+        Reading::Refused(r) => Found::Refused(r),
+    }
+}
+
+// Extracts a frame, or says why a stretch is none; whether a file dump begins there instead.
+fn extract_frame(
+    out: &mut Output,
+    path: &[u8],
+    stretch: &[u8],
+    kind: Kind,
+    offset: u64,
+    to: &[u8],
+) -> bool {
+    if stretch.len() == 0 {
+        show::no_message(out, path, offset);
+        return false;
+    }
+    match found_in(stretch, kind) {
+        Found::File => return true,
+        Found::Frame => {
+            if output::save(out, to, stretch) {
+                put(out, b"\n");
+            }
+        }
+        Found::Refused(r) => frames::complain(out, path, stretch, offset, r),
+    }
+    false
+}
+
+// Extracts what begins at an offset of an open file.
+fn extract_open(
+    out: &mut Output,
+    fd: i32,
+    path: &[u8],
+    kind: Kind,
+    offset: u64,
+    room: &mut [u8],
+    to: &[u8],
+) {
+    let n = show::read_open(out, fd, path, offset, room);
+    if n == 0 {
+        return;
+    }
+    let stretch = frames::first(&room[0..n]);
+    if extract_frame(out, path, stretch, kind, offset, to) {
+        let first = Piece {
+            base: 0,
+            len: n,
+            is_failed: false,
+        };
+        join_into(out, fd, path, kind, room, first, to);
     }
 }
 
 // Extracts what begins at an offset of a file.
-pub fn extract(path: &[u8], kind: Kind, offset: u64, to: &[u8], errors: i32) {
-    let mut room = io::buffer();
-    let n = show::read_from(path, offset, &mut room, errors);
-    if n == 0 {
+pub fn extract(out: &mut Output, path: &[u8], kind: Kind, offset: u64, to: &[u8]) {
+    let fd = pieces::open(out, path);
+    if fd < 0 {
         return;
     }
-    let frame = frames::first(util::bytes::sub_slice(&room, 0, n));
-    if frame.len() == 0 {
-        return show::no_message(path, offset, errors);
-    }
-    extract_from(frame, path, kind, offset, to, errors);
+    let mut room = io::large_buffer();
+    extract_open(out, fd, path, kind, offset, &mut room[0..PIECE], to);
+    pieces::close(fd);
 }

@@ -1,8 +1,11 @@
 // One stretch of bytes: where it ends, and its line.
+use desk_io::names;
 use desk_messages::refusals;
 use desk_print::fields::Style;
 use desk_print::hex;
 use desk_print::number;
+use desk_print::output;
+use desk_print::output::Output;
 use desk_print::put;
 use messages::file_reference::Kind;
 use reader::lent::Reading;
@@ -57,25 +60,25 @@ fn is_double(first: u8) -> bool {
     }
 }
 
-// Writes the head of a frame in hexadecimal digits.
-pub fn put_head(frame: &[u8]) {
-    hex(at(frame, 3));
+// Puts the head of a frame in hexadecimal digits.
+pub fn put_head(out: &mut Output, frame: &[u8]) {
+    hex(out, at(frame, 3));
     if is_double(at(frame, 3)) {
-        put(b" ");
-        hex(at(frame, 4));
+        put(out, b" ");
+        hex(out, at(frame, 4));
     }
 }
 
-// Writes the offset and the length of a stretch.
-pub fn put_place(offset: u64, len: usize) {
-    number(offset);
-    put(b" ");
-    number(len as u64);
-    put(b" ");
+// Puts the offset and the length of a stretch.
+pub fn put_place(out: &mut Output, offset: u64, len: usize) {
+    number(out, offset);
+    put(out, b" ");
+    number(out, len as u64);
+    put(out, b" ");
 }
 
-// Writes what a frame is, in one line.
-fn describe(frame: &[u8], kind: Kind) {
+// Puts what a frame is, in one line.
+fn describe(out: &mut Output, frame: &[u8], kind: Kind) {
     let mut data = [0u8; MOST_DATA];
     let mut entries = [0u64; KEYS];
     match reader::read(frame, kind, &mut data, &mut entries) {
@@ -86,33 +89,44 @@ fn describe(frame: &[u8], kind: Kind) {
             len,
             places,
         } => desk_messages::message(
+            out,
             Style::Line,
             m,
             util::bytes::sub_slice(frame, from, len),
             places,
         ),
-        Reading::Refused(r) => refusals::explain(frame, r),
+        Reading::Refused(r) => refusals::explain(out, frame, r),
     }
 }
 
 // The line of a frame.
-pub fn line(frame: &[u8], offset: u64, kind: Kind) {
-    put_place(offset, frame.len());
-    put_head(frame);
-    put(b" ");
-    describe(frame, kind);
-    put(b"\n");
+pub fn line(out: &mut Output, frame: &[u8], offset: u64, kind: Kind) {
+    put_place(out, offset, frame.len());
+    put_head(out, frame);
+    put(out, b" ");
+    describe(out, frame, kind);
+    put(out, b"\n");
 }
 
 // The line of a stretch that is no frame.
-pub fn refused(stretch: &[u8], offset: u64, r: Refusal) {
-    put_place(offset, stretch.len());
+pub fn refused(out: &mut Output, stretch: &[u8], offset: u64, r: Refusal) {
+    put_place(out, offset, stretch.len());
     match r {
-        Refusal::Field => put_head(stretch),
-        Refusal::Sum => put_head(stretch),
-        _ => put(b"--"),
+        Refusal::Field => put_head(out, stretch),
+        Refusal::Sum => put_head(out, stretch),
+        _ => put(out, b"--"),
     }
-    put(b" ");
-    refusals::explain(stretch, r);
-    put(b"\n");
+    put(out, b" ");
+    refusals::explain(out, stretch, r);
+    put(out, b"\n");
+}
+
+// The error line of a stretch that is no frame.
+pub fn complain(out: &mut Output, path: &[u8], stretch: &[u8], offset: u64, r: Refusal) {
+    names::begin_line(out, path);
+    put(out, b"at offset ");
+    number(out, offset);
+    put(out, b": ");
+    refusals::explain(out, stretch, r);
+    output::end_line(out);
 }

@@ -1,7 +1,12 @@
 // The bytes of a file dump's packets, joined.
+use desk_io::names;
+use desk_io::output;
 use desk_io::pieces::sum;
-use desk_print::complain;
-use desk_print::complain_number;
+use desk_print::number;
+use desk_print::output::Output;
+use desk_print::output::end_line;
+use desk_print::put;
+use desk_print::units;
 use messages::file_dump::FileDumpMsg;
 use messages::system_exclusive::UniversalNonRealTimeMsg;
 ghost use mathlib.Core.Path.{_≡_};
@@ -98,7 +103,7 @@ impl Joined {
     }
 
     // Writes a packet's bytes, where it is the next one; a packet that is sent again is passed over.
-    fn packet(self, out: i32, number: u64, data: &[u8]) -> Self {
+    fn packet(self, out: &mut Output, to: i32, number: u64, data: &[u8]) -> Self {
         let last = self.last;
         if last == number {
             return self;
@@ -106,29 +111,40 @@ impl Joined {
         if !is_next(last, number) {
             return self.ended(End::Missing(next_number(last)));
         }
-        if io::write_all(out, data) {
+        if output::write(out, to, data) {
             return self.more(number, data.len() as u64);
         }
         self.ended(End::Unwritten)
     }
 
     // A message of a file dump.
-    fn file(self, out: i32, m: FileDumpMsg, data: &[u8]) -> Self {
+    fn file(self, out: &mut Output, to: i32, m: FileDumpMsg, data: &[u8]) -> Self {
         match m {
             FileDumpMsg::Header {
                 sender_device: _,
                 file_type: _,
                 length,
             } => self.header(length as u64),
-            FileDumpMsg::Packet { running_count } => self.packet(out, running_count as u64, data),
+            FileDumpMsg::Packet { running_count } => self.packet(
+                out,
+                to,
+                running_count as u64,
+                data,
+            ),
             FileDumpMsg::Request { .. } => self,
         }
     }
 
     // A message of the stream.
-    pub fn message(self, out: i32, m: UniversalNonRealTimeMsg, data: &[u8]) -> Self {
+    pub fn message(
+        self,
+        out: &mut Output,
+        to: i32,
+        m: UniversalNonRealTimeMsg,
+        data: &[u8],
+    ) -> Self {
         match m {
-            UniversalNonRealTimeMsg::FileDump(x) => self.file(out, x, data),
+            UniversalNonRealTimeMsg::FileDump(x) => self.file(out, to, x, data),
             UniversalNonRealTimeMsg::EOF => self.ended(End::Ended),
             UniversalNonRealTimeMsg::Cancel => self.ended(End::Cancelled),
             _ => self,
@@ -169,32 +185,36 @@ impl Joined {
         }
     }
 
-    // Says why the file is not whole.
-    pub fn explain(self, path: &[u8], errors: i32) {
+    // Puts how a dump broke off, and after how many bytes.
+    fn put_broken(self, out: &mut Output, how: &[u8]) {
+        put(out, how);
+        units(out, self.total, b"byte");
+    }
+
+    // Puts why the file is not whole.
+    fn put_reason(self, out: &mut Output) {
         let end = self.end;
         match end {
-            End::Missing(n) => complain_number(
-                errors,
-                path,
-                b"packet ",
-                n,
-                b" of the file dump is missing; nothing is left",
-            ),
-            End::Unwritten => complain(errors, path, b"could not be written out; nothing is left"),
-            End::Cancelled => complain_number(
-                errors,
-                path,
-                b"the file dump is cancelled after ",
-                self.total,
-                b" bytes; nothing is left",
-            ),
-            _ => complain_number(
-                errors,
-                path,
-                b"the file dump is cut after ",
-                self.total,
-                b" bytes; nothing is left",
-            ),
+            End::Missing(n) => {
+                put(out, b"packet ");
+                number(out, n);
+                put(out, b" of the file dump is missing");
+            }
+            End::Unwritten => put(out, b"could not be written out"),
+            End::Cancelled => self.put_broken(out, b"the file dump is cancelled after "),
+            _ => self.put_broken(out, b"the file dump is cut after "),
         }
+    }
+
+    // Says why the file is not whole, and that none is left; what went to standard output cannot be taken back.
+    pub fn explain(self, out: &mut Output, path: &[u8], to: &[u8]) {
+        names::begin_line(out, path);
+        self.put_reason(out);
+        if names::is_dash(to) {
+            put(out, b"; what is written is not whole");
+        } else {
+            put(out, b"; nothing is left");
+        }
+        end_line(out);
     }
 }

@@ -4,4 +4,6 @@ pub mod extract;
 pub mod frames;
 pub mod joined;
 pub mod list;
+pub mod mend;
 pub mod show;
+pub mod sorts;

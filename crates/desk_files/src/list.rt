@@ -1,12 +1,16 @@
 // The frames of a file, a line each.
 use super::all;
 use super::frames;
+use super::sorts;
+use desk_io::names::complain_number;
 use desk_io::pieces;
 use desk_io::pieces::PIECE;
 use desk_io::pieces::Piece;
 use desk_io::pieces::sum;
-use desk_print::complain_number;
+use desk_print::names;
 use desk_print::number;
+use desk_print::output;
+use desk_print::output::Output;
 use desk_print::put;
 use messages::file_reference::Kind;
 use walk::Walked;
@@ -19,10 +23,11 @@ pub enum Scope {
     All,
 }
 
-// How many frames there are, and how many stretches that are none.
+// How many frames there are, how many stretches that are none, and in how many files.
 pub struct Tally {
     pub frames: u64,
     pub others: u64,
+    pub files: u64,
 }
 
 impl Tally {
@@ -31,6 +36,7 @@ impl Tally {
         Tally {
             frames: 0,
             others: 0,
+            files: 0,
         }
     }
 
@@ -39,6 +45,7 @@ impl Tally {
         Tally {
             frames: sum(self.frames, 1),
             others: self.others,
+            files: self.files,
         }
     }
 
@@ -47,6 +54,16 @@ impl Tally {
         Tally {
             frames: self.frames,
             others: sum(self.others, 1),
+            files: self.files,
+        }
+    }
+
+    // With the stretches of another file.
+    pub fn file(self, t: Tally) -> Self {
+        Tally {
+            frames: sum(self.frames, t.frames),
+            others: sum(self.others, t.others),
+            files: sum(self.files, 1),
         }
     }
 }
@@ -66,6 +83,7 @@ fn wide(x: u32) -> usize {
 
 // The frame of a pair of the index, where it begins before the next piece.
 fn list_pair(
+    out: &mut Output,
     s: &[u8],
     offset: usize,
     len: usize,
@@ -76,6 +94,7 @@ fn list_pair(
 ) -> Tally {
     if offset < next {
         frames::line(
+            out,
             util::bytes::sub_slice(s, offset, len),
             sum(base, offset as u64),
             kind,
@@ -87,6 +106,7 @@ fn list_pair(
 
 // The frames of an index of n pairs that begin before the next piece.
 fn list_index(
+    out: &mut Output,
     s: &[u8],
     index: &[u32],
     n: usize,
@@ -102,6 +122,7 @@ fn list_index(
             return tally;
         }
         tally = list_pair(
+            out,
             s,
             place(index, i * 2),
             place(index, i * 2 + 1),
@@ -116,19 +137,35 @@ fn list_index(
 }
 
 // The frames of a piece that begin before the next piece.
-fn list_frames(s: &[u8], next: usize, base: u64, kind: Kind, index: &mut [u32], t: Tally) -> Tally {
+fn list_frames(
+    out: &mut Output,
+    s: &[u8],
+    next: usize,
+    base: u64,
+    kind: Kind,
+    index: &mut [u32],
+    t: Tally,
+) -> Tally {
     match walk::walk(s, kind, index) {
-        Walked::Frames(n) => list_index(s, index, n, next, base, kind, t),
+        Walked::Frames(n) => list_index(out, s, index, n, next, base, kind, t),
         Walked::Refused(_, _) => t,
     }
 }
 
 // The stretches of a piece that begin before the next piece.
-fn list_piece(s: &[u8], base: u64, kind: Kind, scope: Scope, index: &mut [u32], t: Tally) -> Tally {
+fn list_piece(
+    out: &mut Output,
+    s: &[u8],
+    base: u64,
+    kind: Kind,
+    scope: Scope,
+    index: &mut [u32],
+    t: Tally,
+) -> Tally {
     let next = pieces::next_start(s.len());
     match scope {
-        Scope::Frames => list_frames(s, next, base, kind, index, t),
-        Scope::All => all::list_stretches(s, next, base, kind, t),
+        Scope::Frames => list_frames(out, s, next, base, kind, index, t),
+        Scope::All => all::list_stretches(out, s, next, base, kind, t),
     }
 }
 
@@ -148,11 +185,11 @@ fn unended(s: &[u8]) -> usize {
 }
 
 // Says that a file ends inside a message.
-fn tell_cut(s: &[u8], base: u64, path: &[u8], errors: i32) {
+fn tell_cut(out: &mut Output, s: &[u8], base: u64, path: &[u8]) {
     let at = unended(s);
     if at < s.len() {
         complain_number(
-            errors,
+            out,
             path,
             b"the file ends inside a message that begins at offset ",
             sum(base, at as u64),
@@ -170,13 +207,13 @@ pub struct Listing {
 
 // Lists a piece, and reads the next one.
 fn step(
+    out: &mut Output,
     fd: i32,
     path: &[u8],
     kind: Kind,
     scope: Scope,
     room: &mut [u8],
     index: &mut [u32],
-    errors: i32,
     p: Piece,
     t: Tally,
 ) -> Listing
@@ -184,9 +221,9 @@ fn step(
     ensures { λ r. ⌜ r .piece .len ≤ length (now (room .entry)) ⌝ }
 {
     let len = p.len;
-    let tally = list_piece(&room[0..len], p.base, kind, scope, index, t);
+    let tally = list_piece(out, &room[0..len], p.base, kind, scope, index, t);
     if len < pieces::PIECE {
-        tell_cut(&room[0..len], p.base, path, errors);
+        tell_cut(out, &room[0..len], p.base, path);
         return Listing {
             piece: p,
             tally,
@@ -197,30 +234,31 @@ fn step(
     Listing {
         piece,
         tally,
-        is_done: false,
+        is_done: output::is_failed(out),
     }
 }
 
-// Says how far a file is read, every 256 pieces.
-fn tell_progress(turns: u64, base: u64) {
+// Says how far a file is read, every 256 pieces behind the first.
+fn tell_progress(out: &mut Output, turns: u64, base: u64) {
     if turns % 256 == 0 {
-        pieces::progress(base);
+        pieces::progress(out, base);
     }
 }
 
-// Lists an open file, piece by piece. Nothing says that a file ends, so the turns are counted down from a number that no run uses up.
-fn list_open(
+// Lists an open file from its first piece on. Nothing says that a file ends, so the turns are counted down from a number that no run uses up.
+fn list_pieces(
+    out: &mut Output,
     fd: i32,
     path: &[u8],
     kind: Kind,
     scope: Scope,
     room: &mut [u8],
     index: &mut [u32],
-    errors: i32,
+    first: Piece,
 ) -> Listing
+    requires { ⌜ first .len ≤ length (now room) ⌝ }
     ensures { λ r. ⌜ r .piece .len ≤ length (now (room .entry)) ⌝ }
 {
-    let first = pieces::first(fd, room, 0);
     let mut s = Listing {
         piece: first,
         tally: Tally::none(),
@@ -236,48 +274,90 @@ fn list_open(
         }
         let piece = s.piece;
         let tally = s.tally;
-        tell_progress(turns, piece.base);
-        s = step(fd, path, kind, scope, room, index, errors, piece, tally);
+        tell_progress(out, turns, piece.base);
+        s = step(out, fd, path, kind, scope, room, index, piece, tally);
         turns -= 1;
     }
     s
 }
 
-// Writes how many frames there are; and how many stretches are none.
-fn put_tally(t: Tally, scope: Scope) {
-    match scope {
-        Scope::Frames => {}
-        Scope::All => {
-            number(t.others);
-            put(b" stretches that are no frame\n");
-        }
+// Puts how many stretches are no frame.
+fn put_others(out: &mut Output, others: u64) {
+    number(out, others);
+    if others == 1 {
+        return put(out, b" stretch that is no frame\n");
     }
-    number(t.frames);
-    put(b" frames\n");
+    put(out, b" stretches that are no frame\n");
 }
 
-// Lists the frames of a file.
-pub fn list(path: &[u8], kind: Kind, scope: Scope, errors: i32) {
-    let fd = pieces::open(path, errors);
-    if fd < 0 {
-        return;
+// Puts how many frames there are; and how many stretches are none.
+fn put_tally(out: &mut Output, t: Tally, scope: Scope) {
+    match scope {
+        Scope::Frames => {}
+        Scope::All => put_others(out, t.others),
     }
-    let mut room = io::large_buffer();
+    number(out, t.frames);
+    put(out, b" frames\n");
+}
+
+// Puts how many files there are, and the tally of all.
+pub fn put_sum(out: &mut Output, t: Tally, scope: Scope) {
+    number(out, t.files);
+    put(out, b" files:\n");
+    put_tally(out, t, scope);
+}
+
+// Lists an open file; the tally so far, with its own.
+fn list_open(
+    out: &mut Output,
+    fd: i32,
+    path: &[u8],
+    kind: Kind,
+    scope: Scope,
+    room: &mut [u8],
+    t: Tally,
+) -> Tally {
     let mut index = [0u32; 21844];
-    let s = list_open(
-        fd,
-        path,
-        kind,
-        scope,
-        &mut room[0..PIECE],
-        &mut index,
-        errors,
-    );
+    let first = pieces::first(fd, room, 0);
+    let sort = sorts::sort_of(util::bytes::sub_slice(room, 0, first.len));
+    let s = list_pieces(out, fd, path, kind, scope, room, &mut index, first);
     let piece = s.piece;
+    let tally = s.tally;
     if piece.is_failed {
-        pieces::unreadable(path, errors);
-    } else {
-        put_tally(s.tally, scope);
+        pieces::unreadable(out, path);
+        return t;
     }
-    libc::close(fd);
+    if tally.frames == 0 {
+        sorts::hint(out, path, sort);
+    }
+    put_tally(out, tally, scope);
+    t.file(tally)
+}
+
+// Puts the name of a file, where one of several is listed.
+fn put_name(out: &mut Output, path: &[u8], is_named: bool) {
+    if is_named {
+        names::path(out, path);
+        put(out, b":\n");
+    }
+}
+
+// Lists the frames of a file, behind its name where it is one of several; the tally so far, with its own.
+pub fn list(
+    out: &mut Output,
+    path: &[u8],
+    kind: Kind,
+    scope: Scope,
+    is_named: bool,
+    t: Tally,
+) -> Tally {
+    let fd = pieces::open(out, path);
+    if fd < 0 {
+        return t;
+    }
+    put_name(out, path, is_named);
+    let mut room = io::large_buffer();
+    let tally = list_open(out, fd, path, kind, scope, &mut room[0..PIECE], t);
+    pieces::close(fd);
+    tally
 }
