@@ -155,6 +155,8 @@ verdict "a stretch without a length, and one stretch" $?
 # --- standard input and output for a file
 cat sample.syx | run list -; err_is && [ "$(cat out)" = "$("$desk" list sample.syx)" ]
 verdict "list of a pipe" $?
+cat sample.syx | run list bank /dev/stdin; err_is && [ "$(cat out)" = "$("$desk" list sample.syx)" ]
+verdict "list of a pipe by its path" $?
 dd if=sample.syx bs=7 status=none | run list --all -; err_is && [ "$(cat out)" = "$("$desk" list --all sample.syx)" ]
 verdict "list of a pipe that gives a few bytes at a time" $?
 cat sample.syx | run show - 209; err_is && [ "$(cat out)" = "$("$desk" show sample.syx 209)" ]
@@ -285,10 +287,11 @@ verdict "at most one write for each 32 KB of answers: $calls for $bytes bytes" $
 
 # --- an output that fails in the middle of a large list
 python3 "$root/tests/desk_streams.py" taken "$desk" large.syx part.txt 200000 >out 2>err
-cmp -s -n 200000 part.txt large.txt && [ "$(wc -c <part.txt)" -le 200000 ] && [ "$(sed -n 1p out)" -lt 8000000 ]
-verdict "it ends soon, after $(sed -n 1p out) of 40 million bytes" $?
+taken=$(sed -n 1p out)
+cmp -s -n 200000 part.txt large.txt && [ "$(wc -c <part.txt)" -le 200000 ] && [ "$taken" -lt 8000000 ]
+verdict "a list whose output fails ends soon, after $taken of 40 million bytes" $?
 err_is && [ "$(tail -n +2 out)" = "$unwritable" ] && [ "$(wc -l <out)" -eq 2 ]
-verdict "it is told once" $?
+verdict "an output that fails in the middle is told once" $?
 timeout 60 python3 "$root/tests/desk_streams.py" gone "$desk" large.syx >out 2>err
 err_is && out_is "$unwritable"
 verdict "a pipe that is closed is told once" $?
