@@ -1,7 +1,7 @@
 #!/usr/bin/env bash
 # bench/run.sh ORACLE SOURCES: times the functions of include/pasoreum.h, as programs link them, and prints one table: writing against the crate,
-# reading and the walk against plain C. ORACLE is the folder with the oracle's build.sh, SOURCES the folder with the crate's source files.
-# PASOREUM_LIB_DIR names the folder of another libpasoreum.a.
+# reading and the walk against plain C; then that of bench/desk.sh, `desk list` against examples/capture.c. ORACLE is the folder with the oracle's
+# build.sh, SOURCES the folder with the crate's source files. PASOREUM_LIB_DIR names the folder of another libpasoreum.a.
 set -eu
 oracle=$(cd "${1:?the oracle, a folder with build.sh}" && pwd)
 sources=$(cd "${2:?the folder of the crate source files}" && pwd)
@@ -47,3 +47,10 @@ The walk: nanoseconds a byte of 65,535, the least of eleven. Last, the time of 6
 pasoreum_walk              frames         C                here   ratio           goal           length
 T
 middle "$work/walk" 10 65 72
+
+echo
+if [ -x "$here/target/bin/desk" ]; then
+    PASOREUM_LIB_DIR=$lib bash "$here/bench/desk.sh"
+else
+    echo "desk list: not timed, no target/bin/desk (rt check desk)"
+fi
