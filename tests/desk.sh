@@ -216,11 +216,11 @@ verdict "key names, commas, line ends, marks and comments:${differing:- all}" $?
 long=$(printf './%.0s' $(seq 2041))/./sample.syx
 run list "$long"; [ ${#long} -eq 4095 ] && err_is && [ "$(tail -1 out)" = "19 frames" ]
 verdict "a path of 4,095 bytes" $?
-run list "$(printf '%5000s' | tr ' ' a)"; err_is "word 2: is longer than 4,095 bytes" && out_is
+run list "$(printf '%5000s' | tr ' ' a)"; err_is "desk: word 2 is longer than 4,095 bytes" && out_is
 verdict "a path of 5,000 bytes" $?
-run tune new.syx 5 "$(printf '%4096s' | tr ' ' a)" <home.txt; err_is "word 4: is longer than 4,095 bytes" && out_is && [ ! -e new.syx ]
+run tune new.syx 5 "$(printf '%4096s' | tr ' ' a)" <home.txt; err_is "desk: word 4 is longer than 4,095 bytes" && out_is && [ ! -e new.syx ]
 verdict "a name of 4,096 bytes" $?
-run list $(yes a.syx | head -100000); err_is "too many words" && out_is
+run list $(yes "$(printf '%100s' | tr ' ' a)" | head -12000); err_is "desk: too many words" && out_is
 verdict "too many words" $?
 odd=$'a\e[31m\x7f\t.syx'
 cp cut.syx "$odd"; run list "$odd" "no$odd"

@@ -1,26 +1,30 @@
 // The commands of the desk: their words, and what each runs.
+pub mod help;
 pub mod words;
 
 use check::same;
-use desk_decimals::Number;
 use desk_files::extract;
 use desk_files::list;
 use desk_files::list::Scope;
+use desk_files::list::Tally;
 use desk_files::show;
-use desk_print::complain;
+use desk_print::output;
+use desk_print::output::Output;
+use desk_print::output::complain;
+use desk_text::Number;
 use desk_tunings::save;
 use messages::file_reference::Kind;
 use words::word;
-ghost use Prim.Native.Nat.{_≤_};
 
-// The commands; Unknown is any other words.
+// The commands; Unknown is any other word.
 pub enum Command {
     List,
-    ListAll,
     Show,
     Extract,
     Tune,
     Scale,
+    Help,
+    Version,
     Unknown,
 }
 
@@ -30,161 +34,255 @@ pub enum KindWord {
     Nothing,
 }
 
-// Writes how the desk is used.
-pub fn usage(errors: i32) {
-    io::write_all(
-        errors,
-        b"desk list KIND FILE                  every frame of a captured stream\n",
-    );
-    io::write_all(
-        errors,
-        b"desk list --all KIND FILE            also what is no frame, and why\n",
-    );
-    io::write_all(
-        errors,
-        b"desk show KIND FILE OFFSET           one message, every field\n",
-    );
-    io::write_all(
-        errors,
-        b"desk extract KIND FILE OFFSET OUT    the file of a file dump, or a frame as it stands\n",
-    );
-    io::write_all(
-        errors,
-        b"desk tune OUT PROGRAM NAME           a tuning of lines KEY CENTS or KEY - on standard input\n",
-    );
-    io::write_all(
-        errors,
-        b"desk scale OUT BANK PROGRAM NAME     a scale of twelve numbers of cents on standard input\n",
-    );
-    io::write_all(
-        errors,
-        b"KIND is bank or wav: the kind of sound file that is open.\n",
-    );
+// Whether a word asks how the desk is used.
+fn is_help(text: &[u8]) -> bool {
+    if same(text, b"--help") {
+        return true;
+    }
+    same(text, b"-h")
 }
 
-// A command that has so many words, where there are as many.
-fn with_words(c: Command, wanted: usize, n: usize) -> Command {
-    if n == wanted { c } else { Command::Unknown }
-}
-
-// A list of frames, or of all stretches.
-fn list_of(words: &[u8], n: usize) -> Command {
-    if same(word(words, 1), b"--all") {
-        return with_words(Command::ListAll, 4, n);
+// The command of a word that names no task.
+fn other_command(text: &[u8]) -> Command {
+    if is_help(text) {
+        return Command::Help;
     }
-    with_words(Command::List, 3, n)
-}
-
-// The command of n words.
-fn command_of(words: &[u8], n: usize) -> Command {
-    let first = word(words, 0);
-    if same(first, b"list") {
-        return list_of(words, n);
+    if same(text, b"help") {
+        return Command::Help;
     }
-    if same(first, b"show") {
-        return with_words(Command::Show, 4, n);
-    }
-    if same(first, b"extract") {
-        return with_words(Command::Extract, 5, n);
-    }
-    if same(first, b"tune") {
-        return with_words(Command::Tune, 4, n);
-    }
-    if same(first, b"scale") {
-        return with_words(Command::Scale, 5, n);
+    if same(text, b"--version") {
+        return Command::Version;
     }
     Command::Unknown
 }
 
-// The kind of a word; a line that says so where it is none.
-fn kind_of(text: &[u8], errors: i32) -> KindWord {
+// The command of a word.
+fn command_of(text: &[u8]) -> Command {
+    if same(text, b"list") {
+        return Command::List;
+    }
+    if same(text, b"show") {
+        return Command::Show;
+    }
+    if same(text, b"extract") {
+        return Command::Extract;
+    }
+    if same(text, b"tune") {
+        return Command::Tune;
+    }
+    if same(text, b"scale") {
+        return Command::Scale;
+    }
+    other_command(text)
+}
+
+// The kind that a word names.
+fn kind_named(text: &[u8]) -> KindWord {
     if same(text, b"bank") {
         return KindWord::Is(Kind::Bank);
     }
     if same(text, b"wav") {
         return KindWord::Is(Kind::WAV);
     }
-    complain(errors, text, b"is no kind of sound file: bank or wav");
     KindWord::Nothing
 }
 
+// The kind of a word in the place of one; a line that says so where it is none.
+fn kind_of(out: &mut Output, text: &[u8]) -> KindWord {
+    let k = kind_named(text);
+    if let KindWord::Nothing = k {
+        complain(out, text, b"is no kind of sound file: bank or wav");
+    }
+    k
+}
+
 // The offset of a word; a line that says so where it is none.
-fn offset_of(text: &[u8], errors: i32) -> Number {
-    let n = desk_decimals::parse(text);
+fn offset_of(out: &mut Output, text: &[u8]) -> Number {
+    let n = desk_text::parse(text);
     if let Number::Nothing = n {
-        complain(errors, text, b"is no offset: a number of bytes from 0 on");
+        complain(out, text, b"is no offset: a number of bytes from 0 on");
     }
     n
 }
 
-// Lists the file of two words, the first of which has a number.
-fn run_list(words: &[u8], from: usize, scope: Scope, errors: i32)
-    requires { ⌜ from ≤ 8 ⌝ }
-{
-    match kind_of(word(words, from), errors) {
-        KindWord::Is(kind) => list::list(word(words, from + 1), kind, scope, errors),
-        KindWord::Nothing => {}
+// Lists the files of the words from a place on, and says how many there are where they are several.
+fn list_files(
+    out: &mut Output,
+    words: &[u8],
+    from: usize,
+    kind: Kind,
+    scope: Scope,
+    is_named: bool,
+) {
+    let mut t = Tally::none();
+    let mut at = from;
+    while at < words.len() {
+        if output::is_failed(out) {
+            return;
+        }
+        let end = words::end_of(words, at);
+        t = list::list(out, &words[at..end], kind, scope, is_named, t);
+        at = words::next(words, end);
+    }
+    if is_named {
+        list::put_sum(out, t, scope);
+    }
+}
+
+// Lists the files of the words from a number on, of n.
+fn list_from(out: &mut Output, words: &[u8], n: usize, from: usize, kind: Kind, scope: Scope) {
+    if n <= from {
+        return complain(
+            out,
+            b"list",
+            b"wants [--all] [KIND] FILE..; see desk --help",
+        );
+    }
+    list_files(
+        out,
+        words,
+        words::start_of(words, from),
+        kind,
+        scope,
+        1 < n - from,
+    );
+}
+
+// The number of the word behind one that has a number, up to the last of n.
+fn behind(i: usize, n: usize) -> usize {
+    if i < n { i + 1 } else { n }
+}
+
+// Lists the files behind a kind, where the word of a number is one and another follows, else from that word on.
+fn list_kind(out: &mut Output, words: &[u8], n: usize, from: usize, scope: Scope) {
+    let rest = behind(from, n);
+    match kind_named(word(words, from)) {
+        KindWord::Is(kind) => {
+            if rest < n {
+                return list_from(out, words, n, rest, kind, scope);
+            }
+            list_from(out, words, n, from, Kind::Bank, scope)
+        }
+        KindWord::Nothing => list_from(out, words, n, from, Kind::Bank, scope),
+    }
+}
+
+// Lists frames, or all stretches.
+fn run_list(out: &mut Output, words: &[u8], n: usize) {
+    if same(word(words, 1), b"--all") {
+        return list_kind(out, words, n, 2, Scope::All);
+    }
+    list_kind(out, words, n, 1, Scope::Frames);
+}
+
+// Shows the message of a file and an offset.
+fn show_at(out: &mut Output, path: &[u8], offset: &[u8], kind: Kind) {
+    match offset_of(out, offset) {
+        Number::Is(n) => show::show(out, path, kind, n),
+        Number::Nothing => {}
     }
 }
 
 // Shows one message.
-fn run_show(words: &[u8], kind: Kind, errors: i32) {
-    match offset_of(word(words, 3), errors) {
-        Number::Is(offset) => show::show(word(words, 2), kind, offset, errors),
+fn run_show(out: &mut Output, words: &[u8], n: usize) {
+    match n {
+        3 => show_at(out, word(words, 1), word(words, 2), Kind::Bank),
+        4 => match kind_of(out, word(words, 1)) {
+            KindWord::Is(kind) => show_at(out, word(words, 2), word(words, 3), kind),
+            KindWord::Nothing => {}
+        },
+        _ => complain(out, b"show", b"wants [KIND] FILE OFFSET; see desk --help"),
+    }
+}
+
+// Extracts what begins at an offset of a file.
+fn extract_at(out: &mut Output, path: &[u8], offset: &[u8], to: &[u8], kind: Kind) {
+    match offset_of(out, offset) {
+        Number::Is(n) => extract::extract(out, path, kind, n, to),
         Number::Nothing => {}
     }
 }
 
 // Extracts a file or a frame.
-fn run_extract(words: &[u8], kind: Kind, errors: i32) {
-    match offset_of(word(words, 3), errors) {
-        Number::Is(offset) => extract::extract(
+fn run_extract(out: &mut Output, words: &[u8], n: usize) {
+    match n {
+        4 => extract_at(
+            out,
+            word(words, 1),
             word(words, 2),
-            kind,
-            offset,
-            word(words, 4),
-            errors,
+            word(words, 3),
+            Kind::Bank,
         ),
-        Number::Nothing => {}
+        5 => match kind_of(out, word(words, 1)) {
+            KindWord::Is(kind) => extract_at(
+                out,
+                word(words, 2),
+                word(words, 3),
+                word(words, 4),
+                kind,
+            ),
+            KindWord::Nothing => {}
+        },
+        _ => complain(
+            out,
+            b"extract",
+            b"wants [KIND] FILE OFFSET OUT; see desk --help",
+        ),
     }
 }
 
-// Shows or extracts, where the kind is one.
-fn run_at(words: &[u8], is_extract: bool, errors: i32) {
-    match kind_of(word(words, 1), errors) {
-        KindWord::Is(kind) => {
-            if is_extract {
-                run_extract(words, kind, errors);
-            } else {
-                run_show(words, kind, errors);
-            }
+// Makes a tuning of the lines of an open file.
+fn run_tune(out: &mut Output, words: &[u8], n: usize, input: i32) {
+    if n != 4 {
+        return complain(out, b"tune", b"wants OUT PROGRAM NAME; see desk --help");
+    }
+    save::tune(out, word(words, 1), word(words, 2), word(words, 3), input);
+}
+
+// Makes a scale of the values of an open file.
+fn run_scale(out: &mut Output, words: &[u8], n: usize, input: i32) {
+    if n != 5 {
+        return complain(
+            out,
+            b"scale",
+            b"wants OUT BANK PROGRAM NAME; see desk --help",
+        );
+    }
+    save::make_scale(
+        out,
+        word(words, 1),
+        word(words, 2),
+        word(words, 3),
+        word(words, 4),
+        input,
+    );
+}
+
+// Runs the command of n words.
+fn run_command(out: &mut Output, words: &[u8], n: usize, input: i32) {
+    let first = word(words, 0);
+    match command_of(first) {
+        Command::List => run_list(out, words, n),
+        Command::Show => run_show(out, words, n),
+        Command::Extract => run_extract(out, words, n),
+        Command::Tune => run_tune(out, words, n, input),
+        Command::Scale => run_scale(out, words, n, input),
+        Command::Help => help::help(out),
+        Command::Version => help::version(out),
+        Command::Unknown => help::unknown(out, first),
+    }
+}
+
+// Runs the command of words, each ended by a 0; lines are read from an open file.
+pub fn run(out: &mut Output, words: &[u8], input: i32) {
+    let n = words::count(words);
+    if n == 0 {
+        return help::no_command(out);
+    }
+    if n == 2 {
+        if is_help(word(words, 1)) {
+            return help::help(out);
         }
-        KindWord::Nothing => {}
     }
-}
-
-// Runs the command of words, each ended by a 0; lines are read from an open file, and error lines go to another.
-pub fn run(words: &[u8], input: i32, errors: i32) {
-    match command_of(words, words::count(words)) {
-        Command::List => run_list(words, 1, Scope::Frames, errors),
-        Command::ListAll => run_list(words, 2, Scope::All, errors),
-        Command::Show => run_at(words, false, errors),
-        Command::Extract => run_at(words, true, errors),
-        Command::Tune => save::tune(
-            word(words, 1),
-            word(words, 2),
-            word(words, 3),
-            input,
-            errors,
-        ),
-        Command::Scale => save::make_scale(
-            word(words, 1),
-            word(words, 2),
-            word(words, 3),
-            word(words, 4),
-            input,
-            errors,
-        ),
-        Command::Unknown => usage(errors),
-    }
+    run_command(out, words, n, input);
 }

@@ -1,5 +1,6 @@
 // The words of a command: bytes, each word ended by a 0.
-ghost use Prim.Native.Nat.{_≤_};
+ghost use mathlib.Core.Path.{_≡_};
+ghost use Prim.Native.Nat.{_+_, _≤_, min};
 ghost use lib.ListN.{length};
 
 // One more if a byte ends a word.
@@ -40,7 +41,7 @@ pub fn start_of(words: &[u8], number: usize) -> usize
 }
 
 // Where the word that begins at a place ends.
-fn end_of(words: &[u8], start: usize) -> usize
+pub fn end_of(words: &[u8], start: usize) -> usize
     requires { ⌜ start ≤ length (now words) ⌝ }
     ensures { λ r. ⌜ (start ≤ r) × (r ≤ length (now (words .entry))) ⌝ }
 {
@@ -59,6 +60,22 @@ pub fn word(words: &[u8], number: usize) -> &[u8] {
     let start = start_of(words, number);
     let end = end_of(words, start);
     &words[start..end]
+}
+
+// Where the word behind one that ends at a place begins, or the end.
+pub fn next(words: &[u8], end: usize) -> usize
+    requires { ⌜ end ≤ length (now words) ⌝ }
+    ensures { λ r. ⌜ r ≡ min (end + 1) (length (now (words .entry))) ⌝ }
+{
+    if end < words.len() { end + 1 } else { end }
+}
+
+// Whether there is room for a word of so many bytes behind the n that are there.
+pub fn has_room(words: &[u8], n: usize, len: usize) -> bool {
+    if n < words.len() {
+        return len < words.len() - n;
+    }
+    false
 }
 
 // Puts a byte behind the n that are there, where there is room; how many there are then.

@@ -66,7 +66,7 @@ fn write_first(fd: i32, s: &[u8], n: usize) -> bool {
 }
 
 // Remembers that a write has failed, and says so.
-fn fail(out: &mut Output) {
+pub fn fail(out: &mut Output) {
     out[65537] = 1;
     io::write_all(
         errors(out),
