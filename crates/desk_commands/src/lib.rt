@@ -2,12 +2,12 @@
 pub mod words;
 
 use check::same;
-use desk_decimals::Number;
 use desk_files::extract;
 use desk_files::list;
 use desk_files::list::Scope;
 use desk_files::show;
 use desk_print::complain;
+use desk_text::Number;
 use desk_tunings::save;
 use messages::file_reference::Kind;
 use words::word;
@@ -110,7 +110,7 @@ fn kind_of(text: &[u8], errors: i32) -> KindWord {
 
 // The offset of a word; a line that says so where it is none.
 fn offset_of(text: &[u8], errors: i32) -> Number {
-    let n = desk_decimals::parse(text);
+    let n = desk_text::parse(text);
     if let Number::Nothing = n {
         complain(errors, text, b"is no offset: a number of bytes from 0 on");
     }
