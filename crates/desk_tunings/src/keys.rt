@@ -1,8 +1,8 @@
 // The lines of a tuning: KEY CENTS, or KEY -.
 use super::lines;
-use desk_decimals::Number;
-use desk_decimals::cents;
-use desk_decimals::fractions;
+use desk_text::Number;
+use desk_text::cents;
+use desk_text::fractions;
 use util::groups::at;
 use util::limits::KEYS;
 use util::limits::NO_TUNING;
@@ -58,7 +58,7 @@ pub fn said_in(line: &[u8]) -> Said {
     let first = w.first;
     let second = w.second;
     let key = util::bytes::sub_slice(line, first, less(w.first_end, first));
-    match desk_decimals::parse(key) {
+    match desk_text::parse(key) {
         Number::Is(n) => said_of(
             n,
             util::bytes::sub_slice(line, second, less(w.second_end, second)),

@@ -3,11 +3,11 @@ use super::keys;
 use super::keys::Lines;
 use super::scale;
 use super::scale::Values;
-use desk_decimals::Number;
 use desk_io::output;
 use desk_io::pieces;
 use desk_print::complain;
 use desk_print::complain_number;
+use desk_text::Number;
 use messages::system_exclusive::DeviceID;
 use messages::system_exclusive::UniversalNonRealTimeMsg;
 use messages::tuning::KeyBasedTuningDump;
@@ -76,7 +76,7 @@ fn are_values(v: Values, errors: i32) -> bool {
 
 // A number from 0 to 127, or 255 and a line that says that a word is none.
 fn seven(word: &[u8], errors: i32) -> u8 {
-    match desk_decimals::parse(word) {
+    match desk_text::parse(word) {
         Number::Is(n) => {
             if n <= LARGEST_U7 as u64 {
                 return n as u8;

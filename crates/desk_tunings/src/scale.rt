@@ -1,8 +1,8 @@
 // Twelve values in cents, C first.
 use super::lines;
-use desk_decimals::cents;
-use desk_decimals::cents::Decimals;
-use desk_decimals::fractions;
+use desk_text::cents;
+use desk_text::cents::Decimals;
+use desk_text::fractions;
 use messages::tuning::Scale1Byte;
 use messages::tuning::Scale2Byte;
 use util::signed;

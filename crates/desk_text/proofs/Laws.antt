@@ -1,0 +1,5 @@
+pub mod Numbers
+pub mod Spans
+pub mod Digits
+pub mod KeyNames
+pub mod Exact
