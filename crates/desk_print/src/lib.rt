@@ -6,9 +6,12 @@ pub mod output;
 
 use output::Output;
 ghost use Prim.Native.Nat.{_<_};
+ghost use Rattle.desk_print.specs.Output.{Put};
 
 // Puts bytes on standard output.
-pub fn put(out: &mut Output, text: &[u8]) {
+pub fn put(out: &mut Output, text: &[u8])
+    ensures { λ _. ⌜ Put (now (out .entry)) (now (text .entry)) (now (out .exit)) ⌝ }
+{
     output::add(out, text);
 }
 
