@@ -4,12 +4,13 @@ use super::number;
 use super::put;
 use libc::STDOUT_FILENO;
 ghost use mathlib.Core.Path.{_≡_};
-ghost use mathlib.Core.List.{[]};
+ghost use mathlib.Core.List.{[], _∷_, _++_};
 ghost use Prim.Native.Nat.{_+_, _≤_, _<_};
 ghost use lib.Dec.{eqb};
 ghost use mathlib.Core.Bool.{not};
 ghost use lib.ListN.{length, getD, set};
 ghost use Rattle.desk_print.specs.Output.{count-of, gathered, Put, Counted, Failed, Tried, Flushed};
+ghost use Rattle.desk_print.specs.Text.{path-of};
 ghost use Rattle.util.specs.Splice.{splice};
 
 // The bytes that are gathered at most.
@@ -153,7 +154,9 @@ pub fn add(out: &mut Output, text: &[u8])
 }
 
 // Begins an error line, behind all that was put before it.
-fn begin_line(out: &mut Output, what: &[u8]) {
+fn begin_line(out: &mut Output, what: &[u8])
+    ensures { λ _. ⌜ Put (now (out .entry)) (path-of (now (what .entry)) ++ (58 ∷ 32 ∷ [])) (now (out .exit)) ⌝ }
+{
     flush(out);
     names::path(out, what);
     put(out, b": ");
@@ -172,14 +175,18 @@ fn end_line(out: &mut Output)
 }
 
 // Writes an error line: what it is about, and what is to be said of it.
-pub fn complain(out: &mut Output, what: &[u8], why: &[u8]) {
+pub fn complain(out: &mut Output, what: &[u8], why: &[u8])
+    ensures { λ _. ⌜ Flushed (now (out .entry)) (now (out .exit)) ⌝ }
+{
     begin_line(out, what);
     put(out, why);
     end_line(out);
 }
 
 // The same with a number between two texts.
-pub fn complain_number(out: &mut Output, what: &[u8], before: &[u8], n: u64, after: &[u8]) {
+pub fn complain_number(out: &mut Output, what: &[u8], before: &[u8], n: u64, after: &[u8])
+    ensures { λ _. ⌜ Flushed (now (out .entry)) (now (out .exit)) ⌝ }
+{
     begin_line(out, what);
     put(out, before);
     number(out, n);
