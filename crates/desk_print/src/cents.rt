@@ -6,6 +6,8 @@ use super::put;
 ghost use mathlib.Core.Path.{_≡_};
 ghost use Prim.Native.Nat.{_+_, _-_, _*_, _/_, _≤_};
 ghost use lib.Dec.{ltb};
+ghost use Rattle.desk_print.specs.Output.{Put};
+ghost use Rattle.desk_print.specs.Text.{sign-of, signed, signed-decimals};
 
 // A signed amount: below zero or not, and how much.
 pub struct Signed {
@@ -14,7 +16,9 @@ pub struct Signed {
 }
 
 // Puts the sign of an amount.
-fn put_sign(out: &mut Output, is_below: bool) {
+fn put_sign(out: &mut Output, is_below: bool)
+    ensures { λ _. ⌜ Put (now (out .entry)) (sign-of «is_below») (now (out .exit)) ⌝ }
+{
     if is_below {
         put(out, b"-");
     } else {
@@ -23,13 +27,17 @@ fn put_sign(out: &mut Output, is_below: bool) {
 }
 
 // Puts a signed whole number.
-pub fn whole(out: &mut Output, v: Signed) {
+pub fn whole(out: &mut Output, v: Signed)
+    ensures { λ _. ⌜ Put (now (out .entry)) (signed (v .«is_below») (v .amount)) (now (out .exit)) ⌝ }
+{
     put_sign(out, v.is_below);
     number(out, v.amount);
 }
 
 // Puts a signed number of ten thousandths.
-pub fn decimals(out: &mut Output, v: Signed) {
+pub fn decimals(out: &mut Output, v: Signed)
+    ensures { λ _. ⌜ Put (now (out .entry)) (signed-decimals (v .«is_below») (v .amount)) (now (out .exit)) ⌝ }
+{
     put_sign(out, v.is_below);
     number(out, v.amount / 10000);
     put(out, b".");

@@ -4,8 +4,13 @@ use super::number;
 use super::put;
 use libc::STDOUT_FILENO;
 ghost use mathlib.Core.Path.{_≡_};
-ghost use Prim.Native.Nat.{_+_, _≤_};
-ghost use lib.ListN.{length};
+ghost use mathlib.Core.List.{[], _∷_, _++_};
+ghost use Prim.Native.Nat.{_+_, _≤_, _<_};
+ghost use lib.Dec.{eqb};
+ghost use mathlib.Core.Bool.{not};
+ghost use lib.ListN.{length, getD, set};
+ghost use Rattle.desk_print.specs.Output.{count-of, gathered, Put, Counted, Failed, Tried, Flushed};
+ghost use Rattle.desk_print.specs.Text.{path-of};
 ghost use Rattle.util.specs.Splice.{splice};
 
 // The bytes that are gathered at most.
@@ -33,21 +38,32 @@ fn wide(x: u8) -> usize
 
 // How many bytes are gathered.
 fn count(out: &Output) -> usize
-    ensures { λ r. ⌜ r ≤ 65535 ⌝ }
+    ensures { λ r. ⌜ (r ≡ count-of (now (out .entry))) × (r ≤ 65535) ⌝ }
 {
     wide(out[65535]) + wide(out[65536]) * 256
+}
+
+// Stores a byte at a place.
+fn store(room: &mut [u8], at: usize, b: u8)
+    requires { ⌜ at < length (now room) ⌝ }
+    ensures { λ _. ⌜ now (room .exit) ≡ set (now (room .entry)) at b ⌝ }
+{
+    room[at] = b;
 }
 
 // Says how many bytes are gathered.
 fn set_count(out: &mut Output, n: usize)
     requires { ⌜ n ≤ 65535 ⌝ }
+    ensures { λ _. ⌜ Counted (now (out .entry)) n (now (out .exit)) ⌝ }
 {
-    out[65535] = (n % 256) as u8;
-    out[65536] = (n / 256) as u8;
+    store(out, 65535, (n % 256) as u8);
+    store(out, 65536, (n / 256) as u8);
 }
 
 // Whether a write has failed.
-pub fn is_failed(out: &Output) -> bool {
+pub fn is_failed(out: &Output) -> bool
+    ensures { λ r. ⌜ r ≡ not (eqb (getD (now (out .entry)) 65537 0) 0) ⌝ }
+{
     out[65537] != 0
 }
 
@@ -66,8 +82,10 @@ fn write_first(fd: i32, s: &[u8], n: usize) -> bool {
 }
 
 // Remembers that a write has failed, and says so.
-pub fn fail(out: &mut Output) {
-    out[65537] = 1;
+pub fn fail(out: &mut Output)
+    ensures { λ _. ⌜ Failed (now (out .entry)) (now (out .exit)) ⌝ }
+{
+    store(out, 65537, 1);
     io::write_all(
         errors(out),
         b"standard output: cannot be written (is the disk full?)\n",
@@ -75,7 +93,9 @@ pub fn fail(out: &mut Output) {
 }
 
 // Writes out what is gathered.
-pub fn flush(out: &mut Output) {
+pub fn flush(out: &mut Output)
+    ensures { λ _. ⌜ Flushed (now (out .entry)) (now (out .exit)) ⌝ }
+{
     let n = count(out);
     set_count(out, 0);
     if is_failed(out) {
@@ -95,7 +115,9 @@ fn place(room: &mut [u8], at: usize, text: &[u8])
 }
 
 // Gathers bytes behind those that are there, where there is room; whether there is.
-fn gather(out: &mut Output, text: &[u8]) -> bool {
+fn gather(out: &mut Output, text: &[u8]) -> bool
+    ensures { λ r. ⌜ Tried (now (out .entry)) (now (text .entry)) (now (out .exit)) r ⌝ }
+{
     let n = count(out);
     if ROOM - n < text.len() {
         return false;
@@ -106,7 +128,10 @@ fn gather(out: &mut Output, text: &[u8]) -> bool {
 }
 
 // Writes out bytes that are too many to be gathered.
-fn send(out: &mut Output, text: &[u8]) {
+fn send(out: &mut Output, text: &[u8])
+    requires { ⌜ gathered (now out) ≡ [] ⌝ }
+    ensures { λ _. ⌜ Put (now (out .entry)) (now (text .entry)) (now (out .exit)) ⌝ }
+{
     if is_failed(out) {
         return;
     }
@@ -116,7 +141,9 @@ fn send(out: &mut Output, text: &[u8]) {
 }
 
 // Gathers bytes, after what is gathered is written out, where there is no room for them.
-pub fn add(out: &mut Output, text: &[u8]) {
+pub fn add(out: &mut Output, text: &[u8])
+    ensures { λ _. ⌜ Put (now (out .entry)) (now (text .entry)) (now (out .exit)) ⌝ }
+{
     if gather(out, text) {
         return;
     }
@@ -127,14 +154,18 @@ pub fn add(out: &mut Output, text: &[u8]) {
 }
 
 // Begins an error line, behind all that was put before it.
-pub fn begin_line(out: &mut Output, what: &[u8]) {
+pub fn begin_line(out: &mut Output, what: &[u8])
+    ensures { λ _. ⌜ Put (now (out .entry)) (path-of (now (what .entry)) ++ (58 ∷ 32 ∷ [])) (now (out .exit)) ⌝ }
+{
     flush(out);
     names::path(out, what);
     put(out, b": ");
 }
 
 // Writes an error line.
-pub fn end_line(out: &mut Output) {
+pub fn end_line(out: &mut Output)
+    ensures { λ _. ⌜ Flushed (now (out .entry)) (now (out .exit)) ⌝ }
+{
     put(out, b"\n");
     let n = count(out);
     set_count(out, 0);
@@ -144,14 +175,18 @@ pub fn end_line(out: &mut Output) {
 }
 
 // Writes an error line: what it is about, and what is to be said of it.
-pub fn complain(out: &mut Output, what: &[u8], why: &[u8]) {
+pub fn complain(out: &mut Output, what: &[u8], why: &[u8])
+    ensures { λ _. ⌜ Flushed (now (out .entry)) (now (out .exit)) ⌝ }
+{
     begin_line(out, what);
     put(out, why);
     end_line(out);
 }
 
 // The same with a number between two texts.
-pub fn complain_number(out: &mut Output, what: &[u8], before: &[u8], n: u64, after: &[u8]) {
+pub fn complain_number(out: &mut Output, what: &[u8], before: &[u8], n: u64, after: &[u8])
+    ensures { λ _. ⌜ Flushed (now (out .entry)) (now (out .exit)) ⌝ }
+{
     begin_line(out, what);
     put(out, before);
     number(out, n);

@@ -1,5 +1,9 @@
 use Prim.Native.Nat.{_≤_, _-_}
-use lib.ListN.{length}
+use denote.Ref.{now}
+use lib.ListN.{length, take}
+use Rattle.desk_print.specs.Output.{Put}
+use Rattle.desk_print.specs.Text.{each, name-char}
+use Rattle.desk_print.proofs.Texts.{each-begin, each-turn, each-end}
 use borrow.Author.Needs.{needs}
 use Rattle.desk_print.proofs.names.put_chars.Statement.{statement}
 use Rattle.desk_print.proofs.names.put_chars.Tie as tie
@@ -8,38 +12,40 @@ use Rattle.desk_print.proofs.names.put_chars.Lts as lts
 use Rattle.desk_print.proofs.names.put_char.Reads as put-char-reads
 
 abbrev Inv-loop : tie.InvT-loop
-Inv-loop out₀ s i₀ out i = i ≤ length s
+Inv-loop out₀ s i₀ out i = (i ≤ length s) × Put out₀ (each name-char 0 (take i s)) out
 
 abbrev μ-loop : tie.MeasureT-loop
 μ-loop out₀ s i₀ out i = length s - i
 
--- src/names.rt:26:5
+-- src/names.rt:34:5
 loop-holds : tie.Need-loop-holds Inv-loop μ-loop
-loop-holds c = search needs
+loop-holds c = (search needs, each-begin name-char (now (c .before .args .s)) (now (c .before .args .out)))
 
--- src/names.rt:27:23
+-- src/names.rt:35:23
 shared-slice-read-put-char : tie.Need-shared-slice-read-put-char Inv-loop μ-loop
 shared-slice-read-put-char c = search needs
 
--- src/names.rt:27:9
+-- src/names.rt:35:9
 put-char-requires : tie.Need-put-char-requires Inv-loop μ-loop
 put-char-requires c κs = search needs
 
--- src/names.rt:28:9
+-- src/names.rt:36:9
 add-i : tie.Need-add-i Inv-loop μ-loop
 add-i c = search needs
 
--- src/names.rt:26:5
+-- src/names.rt:34:5
 loop-less : tie.Need-loop-less Inv-loop μ-loop
 loop-less c = search needs
 
--- src/names.rt:26:5
+-- src/names.rt:34:5
 loop-again : tie.Need-loop-again Inv-loop μ-loop
-loop-again c = search needs
+loop-again c =
+    let l = c .before .before .before .before .loop in
+    (search needs, each-turn name-char (now (c .before .before .before .before .before .before .args .s)) (l .i) (c .before .before .before .loop-test .taken) (l .inv .1) (c .put-char .ensures))
 
--- src/names.rt:24:1
+-- src/names.rt:30:1
 returns : tie.Need-returns Inv-loop μ-loop
-returns c = search needs
+returns c = each-end name-char (now (c .before .before .before .args .s)) (c .before .loop .i) (c .loop-test .left) (c .before .loop .inv .1)
 
 pub put-chars-spec : {M : Type 1} → statement M
 put-chars-spec =
