@@ -69,6 +69,11 @@ SCALE_2 = frame(0x7F, 8, 6, 0, 6, name16("fine"), sum((low_first(8192 + v, 2) fo
 CHANNELS = frame(0x7F, 8, 8, [3, 127, 127], [64 + v for v in range(-6, 6)])
 CHANNELS_2 = frame(0x7F, 8, 9, [0, 0, 5], sum((low_first(8192 + v, 2) for v in range(12)), []))
 NOTE_CHANGE = frame(0, 8, 7, 0, 5, 2, 69, tuning(6900.5), 70, [0x7F, 0x7F, 0x7F])
+ONE_KEY = frame(0, 8, 7, 0, 5, 1, 69, tuning(6900.5))
+ONE_CHANNEL = frame(0x7F, 8, 8, [0, 0, 1], [64] * 12)
+# a byte order mark, comments, decimal commas, names of keys, a line end that is CR alone; half-way between two steps, and just below it
+PEOPLE = ("\ufeff# my tuning\r60 -24,5 ! flat\r\nC#4 .5\nDb5 5.\n\n# the upper keys\nbb3 \u22123,25 #low\r62 0.0030517578125\n63 0.00305175781249999999\n"
+          "64 76.04900\n G9 -\n65 +0000000000000.1")
 BULK_REQUEST = frame(0, 8, 0, 5)
 BANK_REQUEST = frame(0, 8, 3, 1, 5)
 SONG = bytes((i * 7 + i // 256) % 256 for i in range(300))
@@ -169,6 +174,13 @@ if __name__ == "__main__":
         "empty.syx": b"",
         "nested.syx": frame(0, 0x7C, 0) + file_dump(b"TUNING", KEYS),
         "dump.syx": file_dump(b"REQUESTS", sparse(60000, [0, 49900, 50280, 53500, 53700, 59994])),
+        "text.syx": file_dump(b"NOTES", b"the lines of a club evening, one behind the other\n" * 5),
+        "ones.syx": ONE_KEY + ONE_CHANNEL + file_packet(0, b"a") + wrong_sum(KEYS) + wrong_sum(SAMPLE_PACKET) + SHORT,
+        "format.mid": b"MThd\0\0\0\x06\0\0\0\x01\0\x60MTrk\0\0\0\x04\0\xFF\x2F\0",
+        "sound.wav": b"RIFF\x24\0\0\0WAVEfmt ",
+        "scale.scl": b"! scale.scl\n!\njust\n 12\n!\n 16/15\n 9/8\n",
+        "listing.txt": b"F0 7E 7F 06 01 F7\r\n",
+        "marked.txt": b"\xEF\xBB\xBFF0 7E\n",
     }
     runs["home.txt"] = "".join("%d %+.4f\n" % (k, JUST[k % 12]) for k in range(1, 127)).encode() + b"127 -\n"
     runs["few.txt"] = b"69 -1.5\r\n\r\n  60\t0.25\n"
@@ -181,6 +193,16 @@ if __name__ == "__main__":
     runs["twice.txt"] = b"60 1\n61 2\n60 3\n"
     runs["three.txt"] = b"60 1 2\n"
     runs["one.txt"] = b"60\n"
+    runs["people.txt"] = PEOPLE.encode()
+    runs["comments.txt"] = b"# nothing\n\n  ! here\r\n"
+    runs["returns.txt"] = b"60 1\r61 2\r62 flat\r"
+    runs["no_note.txt"] = b"C4 1\nH4 0\n"
+    runs["no_octave.txt"] = b"C10 0\n"
+    runs["sharp.txt"] = b"G#9 0\n"
+    runs["points.txt"] = b"60 1.2.3\n"
+    runs["no_digit.txt"] = b"60 .\n"
+    runs["commas.txt"] = b"0,-24,-7,10,-14,3,-21,-3,-27,-10,7,-17\n"
+    runs["noted.txt"] = "# one third\r0 \u221224,5 -7 +10. -14 ,5 ! up to F\n-21 -3 -27 -10 7 -17,00000000000000001".encode()
     runs["meantone.txt"] = b"0 -24 -7 10 -14 3\n-21 -3 -27 -10 7 -17\n"
     runs["fine.txt"] = b"0 -24.5 -6.8 10.3 -13.7 3.4 -20.5 -3.4 -27.4 -10.3 6.8 -17.1\n"
     runs["ends.txt"] = b"-100 99.9878 63.5 -64.5 0.0061 -0.0061 0 0 0 0 0 0\n"
