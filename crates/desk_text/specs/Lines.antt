@@ -1,12 +1,12 @@
 -- Lines and words of text.
 use mathlib.Core.Bool.{Bool, true, false, _&&_, _||_}
 use mathlib.Core.List.{List, [], _∷_}
-use Prim.Native.Nat.{ℕ, suc, _+_}
+use Prim.Native.Nat.{ℕ, zero, suc, _+_}
 use lib.Dec.{eqb}
-use lib.ListN.{take, drop, getD}
+use lib.ListN.{length, take, drop, getD}
 use Rattle.util.specs.Pick.{pick}
 use Rattle.desk_text.specs.declared.spans.Until.the-variants.{Blank, Word}
-use Rattle.desk_text.specs.Spans.{is-blank, is-three, stops, span}
+use Rattle.desk_text.specs.Spans.{is-line-end, is-blank, is-three, stops, span}
 
 -- the bytes of a byte order mark at the start: EF BB BF
 unfoldable pub mark-length : List ℕ → ℕ
@@ -41,3 +41,21 @@ word-of s = take (span (stops Blank) s) s
 -- the bytes from the word behind the first on
 unfoldable pub behind-word : List ℕ → List ℕ
 behind-word s = from-word (drop (span (stops Blank) s) s)
+
+-- the line that a text begins with
+unfoldable pub line-of : List ℕ → List ℕ
+line-of t = take (span is-line-end t) t
+
+-- the text behind its first line and the end of it
+unfoldable pub behind-line : List ℕ → List ℕ
+behind-line t = drop (span is-line-end t + end-length (drop (span is-line-end t) t)) t
+
+-- the lines of a text, at most so many
+unfoldable pub lines-within : ℕ → List ℕ → List (List ℕ)
+lines-within zero t = []
+lines-within (suc n) [] = []
+lines-within (suc n) (b ∷ l) = line-of (b ∷ l) ∷ lines-within n (behind-line (b ∷ l))
+
+-- the lines of a text, of which there are no more than bytes
+unfoldable pub lines-of : List ℕ → List (List ℕ)
+lines-of t = lines-within (length t) t

@@ -2,12 +2,11 @@
 use super::spans;
 use super::spans::Until;
 use util::bytes::sub_slice;
-use util::groups::at;
 ghost use mathlib.Core.Path.{_≡_};
 ghost use mathlib.Core.Bool.{true};
 ghost use Prim.Native.Nat.{_+_};
-ghost use lib.ListN.{drop, take};
-ghost use Rattle.desk_text.specs.Spans.{is-line-end, span};
+ghost use lib.ListN.{drop};
+ghost use Rattle.desk_text.specs.Spans.{is-line-end, stops, span};
 ghost use Rattle.desk_text.specs.Lines.{mark-length, end-length, begins-comment, said-length, said-part, from-word, word-of, behind-word};
 
 // The place behind a byte order mark at the start.
@@ -26,6 +25,20 @@ pub fn line_end(s: &[u8], from: usize) -> usize
     ensures { λ r. ⌜ r ≡ from + span is-line-end (drop from (now (s .entry))) ⌝ }
 {
     spans::span_end(s, from, Until::LineEnd)
+}
+
+// The first place from a place on whose byte parts no words.
+pub fn skip(s: &[u8], from: usize) -> usize
+    ensures { λ r. ⌜ r ≡ from + span (stops Until.Word) (drop from (now (s .entry))) ⌝ }
+{
+    spans::span_end(s, from, Until::Word)
+}
+
+// The first place from a place on whose byte parts words.
+pub fn word_end(s: &[u8], from: usize) -> usize
+    ensures { λ r. ⌜ r ≡ from + span (stops Until.Blank) (drop from (now (s .entry))) ⌝ }
+{
+    spans::span_end(s, from, Until::Blank)
 }
 
 // The start of the line behind a line that ends at a place, or the end of the text.
@@ -49,7 +62,7 @@ pub fn next_line(s: &[u8], end: usize) -> usize
 }
 
 // Whether a byte begins a comment, where a word may begin.
-fn is_comment(may_begin: bool, b: u8) -> bool
+pub fn is_comment(may_begin: bool, b: u8) -> bool
     ensures { λ r. ⌜ r ≡ begins-comment «may_begin» b ⌝ }
 {
     if !may_begin {

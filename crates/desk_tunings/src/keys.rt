@@ -1,80 +1,22 @@
-// The lines of a tuning: KEY CENTS, or KEY -.
-use super::lines;
-use desk_text::Number;
-use desk_text::cents;
-use desk_text::fractions;
-use util::groups::at;
+// The lines of a tuning, as the entries of its keys.
+use super::said;
+use super::said::Said;
+use desk_text::lines;
 use util::limits::KEYS;
-use util::limits::NO_TUNING;
+ghost use mathlib.Core.Path.{_≡_};
+ghost use Prim.Native.Nat.{_<_, _+_, _*_};
+ghost use lib.ListN.{length, drop, replicate};
+ghost use Rattle.desk_text.specs.Lines.{mark-length, lines-of};
+ghost use Rattle.desk_tunings.specs.Lines.{said-line};
+ghost use Rattle.desk_tunings.specs.Keys.{untold, put-answer, put-entries, read-lines, equal-entry, filled-entry, filled-from, counted-of, read-answer, read-entries};
 
 // A key that no line has named yet.
 const UNTOLD: u64 = u64::MAX;
 
-// What a line says: a key and its entry, nothing, or what is wrong with it.
-pub enum Said {
-    Entry(usize, u64),
-    Nothing,
-    NotTwo,
-    NoKey,
-    NoCents,
-    Outside,
-}
-
-// Whether a word is the one that says no tuning.
-fn is_dash(s: &[u8]) -> bool {
-    if s.len() == 1 {
-        return at(s, 0) == 45;
-    }
-    false
-}
-
-// What a word says of a key's tuning.
-fn said_of(key: u64, word: &[u8]) -> Said {
-    if KEYS as u64 <= key {
-        return Said::NoKey;
-    }
-    if is_dash(word) {
-        return Said::Entry(key as usize, NO_TUNING);
-    }
-    let d = cents::parse_cents(word);
-    if let cents::Decimals::Nothing = d {
-        return Said::NoCents;
-    }
-    match fractions::tuned(key, d) {
-        Number::Is(n) => Said::Entry(key as usize, n),
-        Number::Nothing => Said::Outside,
-    }
-}
-
-// What a line says.
-pub fn said_in(line: &[u8]) -> Said {
-    let w = lines::two_words(line);
-    if w.is_empty {
-        return Said::Nothing;
-    }
-    if !w.is_two {
-        return Said::NotTwo;
-    }
-    let first = w.first;
-    let second = w.second;
-    let key = util::bytes::sub_slice(line, first, less(w.first_end, first));
-    match desk_text::parse(key) {
-        Number::Is(n) => said_of(
-            n,
-            util::bytes::sub_slice(line, second, less(w.second_end, second)),
-        ),
-        Number::Nothing => Said::NoKey,
-    }
-}
-
-// A difference, or nothing.
-fn less(a: usize, b: usize) -> usize {
-    if b <= a { a - b } else { 0 }
-}
-
-// How reading the lines went: the number of the line that is wrong, and why.
+// How reading the lines went: how many keys were set, or the number of the line that is wrong, and why.
 pub enum Lines {
-    Good,
+    Good(u64),
+    NoLine,
     NotTwo(u64),
     NoKey(u64),
     NoCents(u64),
@@ -83,22 +25,30 @@ pub enum Lines {
 }
 
 // Puts an entry at its key, which no line has named yet.
-fn put_entry(entries: &mut [u64], key: usize, entry: u64, n: u64) -> Lines {
+fn put_entry(entries: &mut [u64], key: usize, entry: u64, n: u64, set: u64) -> Lines
+    requires { ⌜ set < n ⌝ }
+    ensures { λ r. ⌜ r ≡ put-answer (Said.Entry key entry) n set (now (entries .entry)) ⌝ }
+    ensures { λ _. ⌜ now (entries .exit) ≡ put-entries (Said.Entry key entry) (now (entries .entry)) ⌝ }
+{
     if entries.len() <= key {
         return Lines::NoKey(n);
     }
     if entries[key] == UNTOLD {
         entries[key] = entry;
-        return Lines::Good;
+        return Lines::Good(set + 1);
     }
     Lines::Twice(n)
 }
 
 // Puts what line n says.
-fn put_line(line: &[u8], entries: &mut [u64], n: u64) -> Lines {
-    match said_in(line) {
-        Said::Entry(key, entry) => put_entry(entries, key, entry, n),
-        Said::Nothing => Lines::Good,
+fn put_line(line: &[u8], entries: &mut [u64], n: u64, set: u64) -> Lines
+    requires { ⌜ set < n ⌝ }
+    ensures { λ r. ⌜ r ≡ put-answer (said-line (now (line .entry))) n set (now (entries .entry)) ⌝ }
+    ensures { λ _. ⌜ now (entries .exit) ≡ put-entries (said-line (now (line .entry))) (now (entries .entry)) ⌝ }
+{
+    match said::said_in(line) {
+        Said::Entry(key, entry) => put_entry(entries, key, entry, n, set),
+        Said::Nothing => Lines::Good(set),
         Said::NotTwo => Lines::NotTwo(n),
         Said::NoKey => Lines::NoKey(n),
         Said::NoCents => Lines::NoCents(n),
@@ -106,38 +56,30 @@ fn put_line(line: &[u8], entries: &mut [u64], n: u64) -> Lines {
     }
 }
 
-// Whether all lines so far are good.
-fn is_good(l: Lines) -> bool {
-    match l {
-        Lines::Good => true,
-        _ => false,
-    }
-}
-
-// One more, up to the largest number.
-fn more(n: u64) -> u64 {
-    if n < u64::MAX { n + 1 } else { n }
-}
-
 // Puts what all lines say, up to the first that is wrong.
-fn put_lines(s: &[u8], entries: &mut [u64]) -> Lines {
-    let mut l = Lines::Good;
+fn put_lines(s: &[u8], entries: &mut [u64]) -> Lines
+    ensures { λ r. ⌜ (r, now (entries .exit)) ≡ read-lines (lines-of (drop (mark-length (now (s .entry))) (now (s .entry)))) 0 0 (now (entries .entry)) ⌝ }
+{
+    let mut set: u64 = 0;
     let mut n: u64 = 0;
-    let mut at = 0;
+    let mut at = lines::start(s);
     while at < s.len() {
-        if !is_good(l) {
-            return l;
-        }
-        n = more(n);
+        n += 1;
         let end = lines::line_end(s, at);
-        l = put_line(&s[at..end], entries, n);
+        let l = put_line(&s[at..end], entries, n, set);
+        let Lines::Good(k) = l else {
+            return l;
+        };
+        set = k;
         at = lines::next_line(s, end);
     }
-    l
+    Lines::Good(set)
 }
 
 // Sets every entry to one that no line has named.
-fn clear(entries: &mut [u64]) {
+fn clear(entries: &mut [u64])
+    ensures { λ _. ⌜ now (entries .exit) ≡ replicate (length (now (entries .entry))) untold ⌝ }
+{
     let mut i = 0;
     while i < entries.len() {
         entries[i] = UNTOLD;
@@ -146,17 +88,23 @@ fn clear(entries: &mut [u64]) {
 }
 
 // The entry of a key in equal temperament.
-fn equal(key: usize) -> u64 {
+fn equal(key: usize) -> u64
+    ensures { λ r. ⌜ r ≡ equal-entry key ⌝ }
+{
     if key < KEYS { key as u64 * 65536 } else { 0 }
 }
 
 // The entry of a key: what a line says, or equal temperament.
-fn filled(entry: u64, key: usize) -> u64 {
+fn filled(entry: u64, key: usize) -> u64
+    ensures { λ r. ⌜ r ≡ filled-entry entry key ⌝ }
+{
     if entry == UNTOLD { equal(key) } else { entry }
 }
 
 // Gives every key that no line has named its pitch of equal temperament.
-fn fill(entries: &mut [u64]) {
+fn fill(entries: &mut [u64])
+    ensures { λ _. ⌜ now (entries .exit) ≡ filled-from 0 (now (entries .entry)) ⌝ }
+{
     let mut i = 0;
     while i < entries.len() {
         entries[i] = filled(entries[i], i);
@@ -164,10 +112,25 @@ fn fill(entries: &mut [u64]) {
     }
 }
 
+// Lines that set no key are none.
+fn counted(l: Lines) -> Lines
+    ensures { λ r. ⌜ r ≡ counted-of l ⌝ }
+{
+    if let Lines::Good(set) = l {
+        if set == 0 {
+            return Lines::NoLine;
+        }
+    }
+    l
+}
+
 // The entries that lines say.
-pub fn read(s: &[u8], entries: &mut [u64]) -> Lines {
+pub fn read(s: &[u8], entries: &mut [u64]) -> Lines
+    ensures { λ r. ⌜ r ≡ read-answer (now (s .entry)) (length (now (entries .entry))) ⌝ }
+    ensures { λ _. ⌜ now (entries .exit) ≡ read-entries (now (s .entry)) (length (now (entries .entry))) ⌝ }
+{
     clear(entries);
     let l = put_lines(s, entries);
     fill(entries);
-    l
+    counted(l)
 }

@@ -1,5 +1,5 @@
 // Tunings made of lines: a key dump or a scale dump as a new file.
 pub mod keys;
-pub mod lines;
+pub mod said;
 pub mod save;
 pub mod scale;

@@ -7,6 +7,8 @@ use desk_io::output;
 use desk_io::pieces;
 use desk_print::complain;
 use desk_print::complain_number;
+use desk_print::number;
+use desk_print::put;
 use desk_text::Number;
 use messages::system_exclusive::DeviceID;
 use messages::system_exclusive::UniversalNonRealTimeMsg;
@@ -34,13 +36,26 @@ fn complain_value(errors: i32, n: u64, why: &[u8]) {
 // Says what is wrong with a line of a tuning; whether none is.
 fn are_good(l: Lines, errors: i32) -> bool {
     match l {
-        Lines::Good => return true,
-        Lines::NotTwo(n) => complain_line(errors, n, b" is not two words, KEY CENTS or KEY -"),
-        Lines::NoKey(n) => complain_line(errors, n, b" begins with no key from 0 to 127"),
+        Lines::Good(_) => return true,
+        Lines::NoLine => complain(
+            errors,
+            b"standard input",
+            b"has no line of a tuning; nothing is written",
+        ),
+        Lines::NotTwo(n) => complain_line(
+            errors,
+            n,
+            b" is not KEY CENTS or KEY -, such as 61 -24.5 or C#4 -24.5",
+        ),
+        Lines::NoKey(n) => complain_line(
+            errors,
+            n,
+            b" begins with no key: a number from 0 to 127, or a name from C-1 to G9",
+        ),
         Lines::NoCents(n) => complain_line(
             errors,
             n,
-            b" has no number of cents, or more than four decimals",
+            b" has no number of cents behind its key, such as -24.5, or - for no tuning",
         ),
         Lines::Outside(n) => complain_line(
             errors,
@@ -56,7 +71,16 @@ fn are_good(l: Lines, errors: i32) -> bool {
 fn are_values(v: Values, errors: i32) -> bool {
     match v {
         Values::Good => return true,
-        Values::NoNumber(n) => complain_value(errors, n, b" is no number of cents"),
+        Values::NoValue => complain(
+            errors,
+            b"standard input",
+            b"has no value of a scale; nothing is written",
+        ),
+        Values::NoNumber(n) => complain_value(
+            errors,
+            n,
+            b" is no number of cents, such as -24.5; spaces part the values",
+        ),
         Values::Outside(n) => complain_value(errors, n, b" is not from -100 to 99.99 cents"),
         Values::TooFew(n) => complain_number(
             errors,
@@ -116,25 +140,80 @@ fn read_input(input: i32, room: &mut [u8], errors: i32) -> usize
     got.count
 }
 
+// What a file was made of: so many keys of a tuning, or the notes of a scale.
+enum Made {
+    Keys(u64),
+    Notes,
+}
+
+// Says how many keys were set, and how many were not.
+fn tell_keys(n: u64) {
+    let set = util::groups::hold(n, KEYS as u64);
+    number(set);
+    if set == 1 {
+        put(b" key set, ");
+    } else {
+        put(b" keys set, ");
+    }
+    number(KEYS as u64 - set);
+    put(b" in equal temperament\n");
+}
+
+// Says how many bytes a file got, and of what.
+fn tell(path: &[u8], count: u64, made: Made) {
+    put(path);
+    put(b": ");
+    number(count);
+    put(b" bytes written, ");
+    match made {
+        Made::Keys(n) => tell_keys(n),
+        Made::Notes => put(b"12 notes set\n"),
+    }
+}
+
+// Writes bytes as a new file.
+fn save_bytes(path: &[u8], bytes: &[u8], made: Made, errors: i32) {
+    let fd = output::create(path, errors);
+    if fd < 0 {
+        return;
+    }
+    let is_whole = io::write_all(fd, bytes);
+    if output::finish(fd, path, is_whole) {
+        tell(path, bytes.len() as u64, made);
+    } else {
+        output::unwritten(path, errors);
+    }
+}
+
 // Writes the frame of a message as a new file.
 fn save_message(
     path: &[u8],
     m: UniversalNonRealTimeMsg,
     name: &[u8],
     entries: &[u64],
+    made: Made,
     errors: i32,
 ) {
     let mut out = io::buffer();
     match writer::write(DeviceID::AllCall, m, name, entries, &mut out, 0) {
-        Written::Frame(n) => output::save(path, util::bytes::sub_slice(&out, 0, n), errors),
+        Written::Frame(n) => save_bytes(path, util::bytes::sub_slice(&out, 0, n), made, errors),
         Written::Refused(_) => complain(errors, path, b"the message cannot be written"),
+    }
+}
+
+// How many keys were set.
+fn keys_set(l: Lines) -> u64 {
+    match l {
+        Lines::Good(n) => n,
+        _ => 0,
     }
 }
 
 // Writes the key dump of lines as a new file.
 fn save_keys(path: &[u8], program: u8, name: &[u8], s: &[u8], errors: i32) {
     let mut entries = [0u64; KEYS];
-    if are_good(keys::read(s, &mut entries), errors) {
+    let l = keys::read(s, &mut entries);
+    if are_good(l, errors) {
         let dump = KeyBasedTuningDump {
             tuning_bank_num: TuningBank::NoBank,
             tuning_program_num: program,
@@ -144,6 +223,7 @@ fn save_keys(path: &[u8], program: u8, name: &[u8], s: &[u8], errors: i32) {
             UniversalNonRealTimeMsg::KeyBasedTuningDump(dump),
             name,
             &entries,
+            Made::Keys(keys_set(l)),
             errors,
         );
     }
@@ -183,11 +263,18 @@ fn scale_of(values: &[u64; 12], bank: u8, program: u8) -> UniversalNonRealTimeMs
 
 // Writes the scale dump of words as a new file.
 fn save_scale(path: &[u8], bank: u8, program: u8, name: &[u8], s: &[u8], errors: i32) {
-    let mut values = [2000000u64; 12];
+    let mut values = [scale::ZERO; 12];
     let v = scale::read(s, &mut values);
     if are_values(v, errors) {
         let none = [0u64; 1];
-        save_message(path, scale_of(&values, bank, program), name, &none, errors);
+        save_message(
+            path,
+            scale_of(&values, bank, program),
+            name,
+            &none,
+            Made::Notes,
+            errors,
+        );
     }
 }
 

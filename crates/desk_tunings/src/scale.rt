@@ -1,19 +1,33 @@
 // Twelve values in cents, C first.
-use super::lines;
 use desk_text::cents;
 use desk_text::cents::Decimals;
 use desk_text::fractions;
+use desk_text::lines;
 use messages::tuning::Scale1Byte;
 use messages::tuning::Scale2Byte;
 use util::signed;
-ghost use Prim.Native.Nat.{_<_};
+ghost use mathlib.Core.Path.{_≡_};
+ghost use Prim.Native.Nat.{_<_, _≤_};
+ghost use lib.ListN.{length};
+ghost use Rattle.desk_tunings.specs.Scale.{value-of, is-whole-value};
 
-// Zero among the values: a value stands as many ten thousandths of a cent above or below it.
-pub const ZERO: u64 = 2000000;
+// Zero among the values: a value stands as many ten trillionths of a cent above or below it.
+pub const ZERO: u64 = 2000000000000000;
+
+// The highest value above zero, 99.99 cents, and the lowest below it, -100 cents.
+const HIGHEST: u64 = 999900000000000;
+
+const LOWEST: u64 = 1000000000000000;
+
+// A cent, and -64 cents, the lowest of the short form.
+const CENT: u64 = 10000000000000;
+
+const LOWEST_WHOLE: u64 = 1360000000000000;
 
 // How reading the values went: the number of the value that is wrong, and why.
 pub enum Values {
     Good,
+    NoValue,
     NoNumber(u64),
     Outside(u64),
     TooFew(u64),
@@ -21,28 +35,28 @@ pub enum Values {
 }
 
 // The value of a word, from -100 to 99.99 cents; 0 where it is none.
-fn value_of(d: Decimals) -> u64 {
+fn value_in(d: Decimals) -> u64
+    ensures { λ r. ⌜ r ≡ value-of d ⌝ }
+{
     match d {
-        Decimals::Above(a) => { if a <= 999900 { ZERO + a } else { 0 } }
-        Decimals::Below(a) => { if a <= 1000000 { ZERO - a } else { 0 } }
+        Decimals::Above(a) => { if a <= HIGHEST { ZERO + a } else { 0 } }
+        Decimals::Below(a) => { if a <= LOWEST { ZERO - a } else { 0 } }
         Decimals::Nothing => 0,
     }
 }
 
-// One more, up to the largest number.
-fn more(n: usize) -> usize {
-    if n < usize::MAX { n + 1 } else { n }
-}
-
 // Puts the value of a word at place n.
-fn put_word(word: &[u8], values: &mut [u64], n: usize) -> Values {
+fn put_word(word: &[u8], values: &mut [u64], n: usize) -> Values
+    requires { ⌜ n ≤ length (now values) ⌝ }
+{
+    let number = n as u64 + 1;
     let d = cents::parse_cents(word);
     if let Decimals::Nothing = d {
-        return Values::NoNumber(more(n) as u64);
+        return Values::NoNumber(number);
     }
-    let v = value_of(d);
+    let v = value_in(d);
     if v == 0 {
-        return Values::Outside(more(n) as u64);
+        return Values::Outside(number);
     }
     if n < values.len() {
         values[n] = v;
@@ -51,53 +65,59 @@ fn put_word(word: &[u8], values: &mut [u64], n: usize) -> Values {
     Values::TooMany
 }
 
-// Whether all values so far are good.
-fn is_good(v: Values) -> bool {
-    match v {
-        Values::Good => true,
-        _ => false,
+// Whether there are twelve values.
+fn counted(n: usize) -> Values {
+    if n == 0 {
+        return Values::NoValue;
     }
+    if n < 12 {
+        return Values::TooFew(n as u64);
+    }
+    Values::Good
 }
 
-// Whether the values are not too few.
-fn counted(v: Values, n: usize) -> Values {
-    if is_good(v) {
-        if n < 12 {
-            return Values::TooFew(n as u64);
+// The first place from a place on where a word begins that is no comment.
+fn next_word(s: &[u8], from: usize) -> usize {
+    let mut at = lines::skip(s, from);
+    while at < s.len() {
+        if !lines::is_comment(true, s[at]) {
+            return at;
         }
+        at = lines::skip(s, lines::line_end(s, at + 1));
     }
-    v
+    at
 }
 
 // Puts the values of all words, up to the first that is wrong.
 pub fn read(s: &[u8], values: &mut [u64]) -> Values {
-    let mut v = Values::Good;
     let mut n = 0;
-    let mut at = lines::skip(s, 0);
+    let mut at = next_word(s, lines::start(s));
     while at < s.len() {
-        if !is_good(v) {
-            return v;
-        }
         let end = lines::word_end(s, at);
         if end <= at {
-            return v;
+            return counted(n);
         }
-        v = put_word(&s[at..end], values, n);
-        n = more(n);
-        at = lines::skip(s, end);
+        let v = put_word(&s[at..end], values, n);
+        let Values::Good = v else {
+            return v;
+        };
+        n += 1;
+        at = next_word(s, end);
     }
-    counted(v, n)
+    counted(n)
 }
 
 // Whether a value is a whole number of cents from -64 to 63.
-fn is_whole(v: u64) -> bool {
-    if v < 1360000 {
+fn is_whole(v: u64) -> bool
+    ensures { λ r. ⌜ r ≡ is-whole-value v ⌝ }
+{
+    if v < LOWEST_WHOLE {
         return false;
     }
-    if 2630000 < v {
+    if 2630000000000000 < v {
         return false;
     }
-    v % 10000 == 0
+    v % CENT == 0
 }
 
 // Whether all values are whole numbers of cents from -64 to 63.
@@ -117,10 +137,10 @@ fn cents_at(values: &[u64; 12], n: usize) -> i8
     requires { ⌜ n < 12 ⌝ }
 {
     let v = values[n];
-    if v < 1360000 {
+    if v < LOWEST_WHOLE {
         return signed::u7_to_i(0);
     }
-    signed::u7_to_i(util::groups::hold((v - 1360000) / 10000, 127) as u8)
+    signed::u7_to_i(util::groups::hold((v - LOWEST_WHOLE) / CENT, 127) as u8)
 }
 
 // The value of place n in 8,192nds of a semitone, held to -8,192..8,191.
@@ -131,7 +151,7 @@ fn parts_at(values: &[u64; 12], n: usize) -> i16
     if v < ZERO {
         return below(fractions::nearest_8192(ZERO - v));
     }
-    above(fractions::nearest_8192(util::groups::hold(v - ZERO, 999999)))
+    above(fractions::nearest_8192(util::groups::hold(v - ZERO, LOWEST)))
 }
 
 // So many parts above zero.
