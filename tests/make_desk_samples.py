@@ -69,6 +69,7 @@ SCALE_2 = frame(0x7F, 8, 6, 0, 6, name16("fine"), sum((low_first(8192 + v, 2) fo
 CHANNELS = frame(0x7F, 8, 8, [3, 127, 127], [64 + v for v in range(-6, 6)])
 CHANNELS_2 = frame(0x7F, 8, 9, [0, 0, 5], sum((low_first(8192 + v, 2) for v in range(12)), []))
 NOTE_CHANGE = frame(0, 8, 7, 0, 5, 2, 69, tuning(6900.5), 70, [0x7F, 0x7F, 0x7F])
+NOTES = b"the lines of a club evening, one behind the other\n" * 5
 ONE_KEY = frame(0, 8, 7, 0, 5, 1, 69, tuning(6900.5))
 ONE_CHANNEL = frame(0x7F, 8, 8, [0, 0, 1], [64] * 12)
 # a byte order mark, comments, decimal commas, names of keys, a line end that is CR alone; half-way between two steps, and just below it
@@ -174,7 +175,8 @@ if __name__ == "__main__":
         "empty.syx": b"",
         "nested.syx": frame(0, 0x7C, 0) + file_dump(b"TUNING", KEYS),
         "dump.syx": file_dump(b"REQUESTS", sparse(60000, [0, 49900, 50280, 53500, 53700, 59994])),
-        "text.syx": file_dump(b"NOTES", b"the lines of a club evening, one behind the other\n" * 5),
+        "text.syx": file_dump(b"NOTES", NOTES),
+        "torn.syx": file_header(b"TEXT", len(NOTES), b"NOTES") + file_packet(0, NOTES[:111]) + file_packet(2, NOTES[222:]) + END,
         "ones.syx": ONE_KEY + ONE_CHANNEL + file_packet(0, b"a") + wrong_sum(KEYS) + wrong_sum(SAMPLE_PACKET) + SHORT,
         "format.mid": b"MThd\0\0\0\x06\0\0\0\x01\0\x60MTrk\0\0\0\x04\0\xFF\x2F\0",
         "sound.wav": b"RIFF\x24\0\0\0WAVEfmt ",

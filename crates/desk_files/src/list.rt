@@ -12,6 +12,7 @@ use desk_print::number;
 use desk_print::output;
 use desk_print::output::Output;
 use desk_print::put;
+use desk_print::units;
 use messages::file_reference::Kind;
 use walk::Walked;
 ghost use Prim.Native.Nat.{_≤_};
@@ -302,8 +303,8 @@ fn put_tally(out: &mut Output, t: Tally, scope: Scope) {
 
 // Puts how many files there are, and the tally of all.
 pub fn put_sum(out: &mut Output, t: Tally, scope: Scope) {
-    number(out, t.files);
-    put(out, b" files:\n");
+    units(out, t.files, b"file");
+    put(out, b":\n");
     put_tally(out, t, scope);
 }
 

@@ -130,6 +130,9 @@ pub fn unreadable(out: &mut Output, path: &[u8]) {
     if error == libc::EACCES {
         return complain(out, path, b"may not be read");
     }
+    if error == libc::ENAMETOOLONG {
+        return complain(out, path, b"has a name that is too long");
+    }
     complain(out, path, b"cannot be read");
 }
 

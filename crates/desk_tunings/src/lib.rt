@@ -1,4 +1,5 @@
 // Tunings made of lines: a key dump or a scale dump as a new file.
+pub mod errors;
 pub mod keys;
 pub mod said;
 pub mod save;
