@@ -1,9 +1,9 @@
 -- Texts of single numbers, keys and names, computed.
 -- Assumes nothing.
 use mathlib.Core.Path.{_≡_, refl}
-use mathlib.Core.List.{List, [], _∷_}
+use mathlib.Core.List.{[], _∷_}
 use Rattle.desk_print.specs.Text.{decimal-of, decimal, last-digits, with-commas-of, with-commas, signed-decimals, hex-of, each, hex-all-of, trimmed, in-quotes, path-of, note-name, key-name}
-use mathlib.Core.Bool.{true, false}
+use mathlib.Core.Bool.{true}
 
 -- 0
 zero-is : decimal 0 ≡ 48 ∷ []
@@ -34,6 +34,11 @@ decimals-are = refl
 -- AF
 hex-is : hex-of 175 ≡ 65 ∷ 70 ∷ []
 hex-is = refl
+
+-- 00 7F, with a space before each
+bytes-are : hex-all-of (0 ∷ 127 ∷ []) ≡ 32 ∷ 48 ∷ 48 ∷ 32 ∷ 55 ∷ 70 ∷ []
+unfolding each
+bytes-are = refl
 
 -- C4
 middle-c : key-name 60 ≡ 67 ∷ 52 ∷ []

@@ -2,15 +2,15 @@
 -- Assumes nothing.
 use mathlib.Core.Path.{_≡_, refl, sym, subst, ap, _∙_}
 use mathlib.Core.Bool.{Bool, true, false, not}
-use mathlib.Core.List.{List, [], _∷_, _++_, append-assoc, append-nil}
-use Prim.Native.Nat.{ℕ, zero, suc, _+_, _-_, _*_, _/_, _%_, _^_, _≤_, _<_}
+use mathlib.Core.List.{List, [], _++_, append-assoc, append-nil}
+use Prim.Native.Nat.{ℕ, _+_, _-_, _/_, _%_, _≤_, _<_}
 use native.Mathlib.Omega.{arith}
 use lib.Dec.{eqb}
-use lib.ListN.{length, take, drop, set, getD, length-append, length-drop, length-set, List·getD-append}
+use lib.ListN.{length, take, drop, set, getD, length-append, length-set, replicate, getD-replicate}
 use lib.Seq.{getD-set-same, getD-set-other, take-set-le, take-at, getD-append-add, getD-drop, length-take-le}
-use borrow.Author.Tests.{eqb-true, eqb-false, eq-eqb, ne-eqb}
+use borrow.Author.Tests.{eq-eqb}
 use Rattle.util.specs.Splice.{splice}
-use Rattle.desk_print.specs.Output.{count-of, gathered, Sound, Put, Counted, Failed, Gathered, Flushed}
+use Rattle.desk_print.specs.Output.{count-of, gathered, Sound, Fresh, Put, Counted, Failed, Gathered, Flushed, Added}
 
 -- ---- puts
 
@@ -57,9 +57,6 @@ pub put-flushed : {a b c d e t : List ℕ} → b ≡ a → Flushed b c → d ≡
 put-flushed {a} {b} {c} {d} {e} {t} p f q r =
     subst (λ (x : List ℕ). Put x t e) p (put-put (f .put) (subst (λ (x : List ℕ). Put x t e) q r))
 
-pub flushed : {a b : List ℕ} → gathered b ≡ [] → (Sound b → Sound a) → Flushed a b
-flushed e s = record { put = put-empty [] e s; empty = e }
-
 pub true-false : true ≡ false → ⊥
 true-false e = let z : _≡_ {A = ℕ} 0 1 = cc in omega arith
 
@@ -94,6 +91,9 @@ pub none-gathered : (o : List ℕ) → count-of o ≡ 0 → gathered o ≡ []
 unfolding gathered
 none-gathered o e = ap (λ (n : ℕ). take n o) e
 
+pub flushed : {a b : List ℕ} → count-of b ≡ 0 → (Sound b → Sound a) → Flushed a b
+flushed {a} {b} n s = let e = none-gathered b n in record { put = put-empty [] e s; none = n; empty = e }
+
 -- a byte that remembers a failure
 pub failed : {o x : List ℕ} → length o ≡ 65539 → x ≡ set o 65537 1 → Failed o x
 failed {o} {x} h p =
@@ -106,6 +106,16 @@ failed-not-sound f s = omega (arith, f .flag)
 
 pub is-failed-true : {n : ℕ} {r : Bool} → r ≡ not (eqb n 0) → r ≡ true → n ≡ 0 → ⊥
 is-failed-true {n} {r} e t z = let q : not (eqb n 0) ≡ false = ap not (eq-eqb n 0 z) in let y : _≡_ {A = ℕ} 0 1 = cc in omega arith
+
+-- zeros, and behind them the file of error lines
+pub fresh : (e : ℕ) → Fresh (set (replicate 65539 0) 65538 e)
+fresh e =
+    let low : getD (set (replicate 65539 0) 65538 e) 65535 0 ≡ 0 = zero-at 65535 (omega arith) (λ q. omega arith) in
+    let high : getD (set (replicate 65539 0) 65538 e) 65536 0 ≡ 0 = zero-at 65536 (omega arith) (λ q. omega arith) in
+    record { none = omega arith; sound = zero-at 65537 (omega arith) (λ q. omega arith) }
+  where
+    zero-at : (k : ℕ) → k < 65539 → (k ≡ 65538 → ⊥) → getD (set (replicate 65539 0) 65538 e) k 0 ≡ 0
+    zero-at k h n = getD-set-other (replicate 65539 0) 65538 k e 0 n ∙ getD-replicate 65539 k 0 0 h
 
 -- ---- a text placed in the room
 
@@ -142,3 +152,20 @@ placed {a} {b} {c} t n m h l e k =
           ∙ ap (λ (n : ℕ). take n a ++ t) m;
       flag = k .flag ∙ ap (λ (x : List ℕ). getD x 65537 0) e ∙ getD-splice-past a t n 65537 (omega arith) (omega arith);
     }
+
+-- ---- the three ways of adding a text
+
+pub added-here : {a t b : List ℕ} → count-of a + length t ≤ 65535 → Gathered a t b → Added a t b
+added-here h g = record { put = put-gathered g; room = λ r. g; next = λ r l. absurd (omega arith) }
+
+pub added-next : {a b c d t : List ℕ} → b ≡ a → 65535 < count-of a + length t → Flushed b c → Gathered c t d → Added a t d
+added-next {a} {b} {c} {d} {t} e h f g =
+    record {
+      put = put-flushed e f refl (put-gathered g);
+      room = λ r. absurd (omega arith);
+      next = λ r l. g .joined ∙ ap (λ (x : List ℕ). x ++ t) (f .empty);
+    }
+
+pub added-sent : {a b c d e t : List ℕ} → b ≡ a → 65535 < count-of a + length t → Flushed b c → d ≡ c → 65535 < count-of c + length t → Put d t e → Added a t e
+added-sent p h f q k r =
+    record { put = put-flushed p f q r; room = λ x. absurd (omega arith); next = λ x l. absurd (omega (arith, f .none)) }

@@ -2,8 +2,8 @@
 use mathlib.Core.Path.{_≡_}
 use mathlib.Core.Bool.{Bool, true, false}
 use mathlib.Core.List.{List, [], _++_}
-use Prim.Native.Nat.{ℕ, _+_, _*_, _≤_}
-use lib.ListN.{take, getD}
+use Prim.Native.Nat.{ℕ, _+_, _*_, _≤_, _<_}
+use lib.ListN.{length, take, getD}
 
 -- how many bytes are gathered: the number of the two bytes behind the room of 65,535
 abbrev pub count-of : List ℕ → ℕ
@@ -16,6 +16,11 @@ gathered o = take (count-of o) o
 -- no write has failed so far
 abbrev pub Sound : List ℕ → Type 0
 Sound o = getD o 65537 0 ≡ 0
+
+-- nothing is gathered, and no write has failed
+pub record Fresh (o : List ℕ) : Type 0 where
+  pub none : count-of o ≡ 0
+  pub sound : Sound o
 
 -- a text is put: unless a write has failed, what was gathered and the text behind it are what was written out on the way and what is gathered now
 pub record Put (before text after : List ℕ) : Type 0 where
@@ -42,9 +47,18 @@ pub record Gathered (before text after : List ℕ) : Type 0 where
 -- what an attempt to gather a text gave: the text is gathered, or nothing is altered
 pub record Tried (before text after : List ℕ) (r : Bool) : Type 0 where
   pub done : r ≡ true → Gathered before text after
+  pub fits : r ≡ true → count-of before + length text ≤ 65535
   pub refused : r ≡ false → after ≡ before
+  pub full : r ≡ false → 65535 < count-of before + length text
 
 -- all that was gathered is written out, or a write has failed; nothing is gathered now
 pub record Flushed (before after : List ℕ) : Type 0 where
   pub put : Put before [] after
+  pub none : count-of after ≡ 0
   pub empty : gathered after ≡ []
+
+-- a text is put: gathered where there is room, or else in an empty room, unless it is longer than the room
+pub record Added (before text after : List ℕ) : Type 0 where
+  pub put : Put before text after
+  pub room : count-of before + length text ≤ 65535 → Gathered before text after
+  pub next : 65535 < count-of before + length text → length text ≤ 65535 → gathered after ≡ text

@@ -9,7 +9,7 @@ ghost use Prim.Native.Nat.{_+_, _≤_, _<_};
 ghost use lib.Dec.{eqb};
 ghost use mathlib.Core.Bool.{not};
 ghost use lib.ListN.{length, getD, set};
-ghost use Rattle.desk_print.specs.Output.{count-of, gathered, Put, Counted, Failed, Tried, Flushed};
+ghost use Rattle.desk_print.specs.Output.{count-of, gathered, Fresh, Put, Counted, Failed, Tried, Flushed, Added};
 ghost use Rattle.desk_print.specs.Text.{path-of};
 ghost use Rattle.util.specs.Splice.{splice};
 
@@ -23,6 +23,7 @@ pub type Output = [u8; 65539];
 // An output with nothing gathered; error lines go to an open file.
 pub fn new(errors: u8) -> Output
     ensures { λ r. ⌜ 65539 ≡ length r ⌝ }
+    ensures { λ r. ⌜ Fresh r ⌝ }
 {
     let mut out = [0; 65539];
     out[65538] = errors;
@@ -142,7 +143,7 @@ fn send(out: &mut Output, text: &[u8])
 
 // Gathers bytes, after what is gathered is written out, where there is no room for them.
 pub fn add(out: &mut Output, text: &[u8])
-    ensures { λ _. ⌜ Put (now (out .entry)) (now (text .entry)) (now (out .exit)) ⌝ }
+    ensures { λ _. ⌜ Added (now (out .entry)) (now (text .entry)) (now (out .exit)) ⌝ }
 {
     if gather(out, text) {
         return;

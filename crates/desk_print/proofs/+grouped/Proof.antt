@@ -1,3 +1,5 @@
+-- `desk_print::grouped` meets its contract. A number below a thousand, or the thousands, a comma and three digits. The measure is the number.
+-- Assumes nothing.
 use native.Mathlib.Omega.{arith}
 use Rattle.desk_print.proofs.Laws.{put-put, put-as}
 use Rattle.desk_print.proofs.Texts.{commas-few, commas-more}
@@ -21,7 +23,6 @@ grouped-at t = and 1 grouped-kinds.ps (is 1 grouped-kinds.ps μ-grouped t) group
 abbrev grouped-below : ℕ → In 1 grouped-kinds.ps
 grouped-below t = and 1 grouped-kinds.ps (falls 1 grouped-kinds.ps _<_ μ-grouped t) grouped.Pre
 
--- src/lib.rt:69:9
 grouped-number-requires : (t : ℕ) → grouped-lts.Need-number-requires (
   number-reads.Asked,
   number-reads.Learnt,
@@ -32,7 +33,6 @@ grouped-number-requires : (t : ℕ) → grouped-lts.Need-number-requires (
 ) (grouped-at t) grouped.Post
 grouped-number-requires t c κs = tt
 
--- src/lib.rt:69:9
 grouped-returns : (t : ℕ) → grouped-lts.Need-returns (
   number-reads.Asked,
   number-reads.Learnt,
@@ -43,7 +43,6 @@ grouped-returns : (t : ℕ) → grouped-lts.Need-returns (
 ) (grouped-at t) grouped.Post
 grouped-returns t c = put-as (commas-few (c .before .before .before .args .n) (c .before .before .if1 .taken)) (c .number .ensures)
 
--- src/lib.rt:71:5
 grouped-grouped-requires : (t : ℕ) → grouped-lts.Need-grouped-requires (
   number-reads.Asked,
   number-reads.Learnt,
@@ -54,7 +53,6 @@ grouped-grouped-requires : (t : ℕ) → grouped-lts.Need-grouped-requires (
 ) (grouped-at t) grouped.Post
 grouped-grouped-requires t c κs = (omega (arith, c .before .before .pre .0, c .before .if1 .left), tt)
 
--- src/lib.rt:72:5
 grouped-comma-three-requires : (t : ℕ) → grouped-lts.Need-comma-three-requires (
   number-reads.Asked,
   number-reads.Learnt,
@@ -65,7 +63,6 @@ grouped-comma-three-requires : (t : ℕ) → grouped-lts.Need-comma-three-requir
 ) (grouped-at t) grouped.Post
 grouped-comma-three-requires t c κs = tt
 
--- src/lib.rt:65:1
 grouped-returns-2 : (t : ℕ) → grouped-lts.Need-returns-2 (
   number-reads.Asked,
   number-reads.Learnt,

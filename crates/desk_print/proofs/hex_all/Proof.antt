@@ -1,3 +1,5 @@
+-- `desk_print::hex_all` meets its contract. The invariant: the texts of the bytes so far are put.
+-- Assumes nothing.
 use Rattle.desk_print.proofs.Laws.{put-put}
 use Prim.Native.Nat.{_≤_, _-_}
 use denote.Ref.{now}
@@ -8,10 +10,6 @@ use Rattle.desk_print.proofs.Texts.{each-begin, each-turn, each-end}
 use borrow.Author.Needs.{needs}
 use Rattle.desk_print.proofs.hex_all.Statement.{statement}
 use Rattle.desk_print.proofs.hex_all.Tie as tie
-use Rattle.desk_print.proofs.hex_all.Reads as reads
-use Rattle.desk_print.proofs.hex_all.Lts as lts
-use Rattle.desk_print.proofs.hex.Reads as hex-reads
-use Rattle.desk_print.proofs.put.Reads as put-reads
 
 abbrev Inv-loop : tie.InvT-loop
 Inv-loop out₀ s i₀ t4 out i = (i ≤ length s) × Put out₀ (each spaced-hex 0 (take i s)) out
@@ -19,41 +17,32 @@ Inv-loop out₀ s i₀ t4 out i = (i ≤ length s) × Put out₀ (each spaced-he
 abbrev μ-loop : tie.MeasureT-loop
 μ-loop out₀ s i₀ t4 out i = length s - i
 
--- src/lib.rt:95:5
 loop-holds : tie.Need-loop-holds Inv-loop μ-loop
 loop-holds c = (search needs, each-begin spaced-hex (now (c .before .args .s)) (now (c .before .args .out)))
 
--- src/lib.rt:96:18
 slice-aggregate-put : tie.Need-slice-aggregate-put Inv-loop μ-loop
 slice-aggregate-put c = search needs
 
--- src/lib.rt:96:9
 put-requires : tie.Need-put-requires Inv-loop μ-loop
 put-requires c κs = search needs
 
--- src/lib.rt:97:18
 shared-slice-read-hex : tie.Need-shared-slice-read-hex Inv-loop μ-loop
 shared-slice-read-hex c = search needs
 
--- src/lib.rt:97:9
 hex-requires : tie.Need-hex-requires Inv-loop μ-loop
 hex-requires c κs = search needs
 
--- src/lib.rt:98:9
 add-i : tie.Need-add-i Inv-loop μ-loop
 add-i c = search needs
 
--- src/lib.rt:95:5
 loop-less : tie.Need-loop-less Inv-loop μ-loop
 loop-less c = search needs
 
--- src/lib.rt:95:5
 loop-again : tie.Need-loop-again Inv-loop μ-loop
 loop-again c =
     let l = c .before .before .before .before .before .before .before .loop in
     (search needs, each-turn spaced-hex (now (c .before .before .before .before .before .before .before .before .before .args .s)) (l .i) (c .before .before .before .before .before .before .loop-test .taken) (l .inv .1) (put-put (c .before .before .before .put .ensures) (c .hex .ensures)))
 
--- src/lib.rt:91:1
 returns : tie.Need-returns Inv-loop μ-loop
 returns c = each-end spaced-hex (now (c .before .before .before .args .s)) (c .before .loop .i) (c .loop-test .left) (c .before .loop .inv .1)
 

@@ -1,3 +1,5 @@
+-- `desk_print::names::is_control` meets its contract. By the tests of the byte and of the place.
+-- Assumes nothing.
 use mathlib.Core.Path.{sym, ap, _∙_}
 use mathlib.Core.List.{_∷_}
 use Prim.Native.Nat.{ℕ}
@@ -9,35 +11,23 @@ use Rattle.desk_print.proofs.Texts.{control-low, control-delete, not-co
 use borrow.Author.Needs.{needs}
 use Rattle.desk_print.proofs.names.is_control.Statement.{statement}
 use Rattle.desk_print.proofs.names.is_control.Tie as tie
-use Rattle.desk_print.proofs.names.is_control.Reads as reads
-use Rattle.desk_print.proofs.names.is_control.Lts as lts
-use Rattle.util.proofs.groups.at.Reads as at-reads
 
--- src/names.rt:106:9
-at-requires : tie.Need-at-requires
-at-requires c κs = search needs
-
--- src/names.rt:108:9
 returns : tie.Need-returns
 returns c = control-low (getD (0 ∷ now (c .before .before .before .args .s)) (c .before .before .before .args .i) 0) (getD (now (c .before .before .before .args .s)) (c .before .before .before .args .i) 0) (omega (arith, c .before .at .ensures, c .if1 .taken))
 
--- src/names.rt:111:9
 returns-2 : tie.Need-returns-2
 returns-2 c = control-delete (getD (0 ∷ now (c .before .before .before .before .args .s)) (c .before .before .before .before .args .i) 0) (getD (now (c .before .before .before .before .args .s)) (c .before .before .before .before .args .i) 0) (omega (arith, c .before .before .at .ensures, c .if2 .taken))
 
--- src/names.rt:114:9
 returns-3 : tie.Need-returns-3
 returns-3 c =
     let e = c .before .before .before .at .ensures in
     not-control-low (getD (0 ∷ now (c .before .before .before .before .before .args .s)) (c .before .before .before .before .before .args .i) 0) (getD (now (c .before .before .before .before .before .args .s)) (c .before .before .before .before .before .args .i) 0) (omega (arith, e, c .before .before .if1 .left)) (λ q. c .before .if2 .left (e ∙ q)) (omega (arith, e, c .if3 .taken))
 
--- src/names.rt:117:9
 returns-4 : tie.Need-returns-4
 returns-4 c =
     let e = c .before .before .before .before .at .ensures in
     not-control-high (getD (0 ∷ now (c .before .before .before .before .before .before .args .s)) (c .before .before .before .before .before .before .args .i) 0) (getD (now (c .before .before .before .before .before .before .args .s)) (c .before .before .before .before .before .before .args .i) 0) (omega (arith, e, c .before .before .before .if1 .left)) (λ q. c .before .before .if2 .left (e ∙ q)) (omega (arith, e, c .if4 .taken))
 
--- src/names.rt:120:9
 returns-5 : tie.Need-returns-5
 returns-5 c =
     let e = c .before .before .before .before .before .at .ensures in
@@ -45,15 +35,6 @@ returns-5 c =
     ap (λ (j : ℕ). eqb (getD (0 ∷ s) j 0) 0xC2) (sym (c .if5 .taken))
     ∙ control-second (getD (0 ∷ now (c .before .before .before .before .before .before .before .args .s)) (c .before .before .before .before .before .before .before .args .i) 0) (getD (now (c .before .before .before .before .before .before .before .args .s)) (c .before .before .before .before .before .before .before .args .i) 0) (omega (arith, e, c .before .before .before .before .if1 .left)) (λ q. c .before .before .before .if2 .left (e ∙ q)) (omega (arith, e, c .before .before .if3 .left)) (omega (arith, e, c .before .if4 .left))
 
--- src/names.rt:122:11
-sub-at : tie.Need-sub-at
-sub-at c = search needs
-
--- src/names.rt:122:5
-at-requires-2 : tie.Need-at-requires-2
-at-requires-2 c κs = search needs
-
--- src/names.rt:103:1
 returns-6 : tie.Need-returns-6
 returns-6 c =
     let e = c .before .before .before .before .before .before .at .ensures in
@@ -66,12 +47,12 @@ pub is-control-spec : {M : Type 1} → statement M
 is-control-spec =
     tie.close
     (tie.spec
-    at-requires
+    (λ c κs. search needs)
     returns
     returns-2
     returns-3
     returns-4
     returns-5
-    sub-at
-    at-requires-2
+    (λ c. search needs)
+    (λ c κs. search needs)
     returns-6)

@@ -1,3 +1,5 @@
+-- `desk_print::names::path` meets its contract. The invariant: the texts of the bytes so far are put.
+-- Assumes nothing.
 use Prim.Native.Nat.{_≤_, _-_}
 use denote.Ref.{now}
 use lib.ListN.{length, take}
@@ -7,9 +9,6 @@ use Rattle.desk_print.proofs.Texts.{each-begin, each-turn, each-end}
 use borrow.Author.Needs.{needs}
 use Rattle.desk_print.proofs.names.path.Statement.{statement}
 use Rattle.desk_print.proofs.names.path.Tie as tie
-use Rattle.desk_print.proofs.names.path.Reads as reads
-use Rattle.desk_print.proofs.names.path.Lts as lts
-use Rattle.desk_print.proofs.names.put_path_char.Reads as put-path-char-reads
 
 abbrev Inv-loop : tie.InvT-loop
 Inv-loop out₀ s i₀ out i = (i ≤ length s) × Put out₀ (each path-char 0 (take i s)) out
@@ -17,29 +16,23 @@ Inv-loop out₀ s i₀ out i = (i ≤ length s) × Put out₀ (each path-char 0 
 abbrev μ-loop : tie.MeasureT-loop
 μ-loop out₀ s i₀ out i = length s - i
 
--- src/names.rt:136:5
 loop-holds : tie.Need-loop-holds Inv-loop μ-loop
 loop-holds c = (search needs, each-begin path-char (now (c .before .args .s)) (now (c .before .args .out)))
 
--- src/names.rt:137:9
 put-path-char-requires : tie.Need-put-path-char-requires Inv-loop μ-loop
 put-path-char-requires c κs = search needs
 
--- src/names.rt:138:9
 add-i : tie.Need-add-i Inv-loop μ-loop
 add-i c = search needs
 
--- src/names.rt:136:5
 loop-less : tie.Need-loop-less Inv-loop μ-loop
 loop-less c = search needs
 
--- src/names.rt:136:5
 loop-again : tie.Need-loop-again Inv-loop μ-loop
 loop-again c =
     let l = c .before .before .before .loop in
     (search needs, each-turn path-char (now (c .before .before .before .before .before .args .s)) (l .i) (c .before .before .loop-test .taken) (l .inv .1) (c .put-path-char .ensures))
 
--- src/names.rt:132:1
 returns : tie.Need-returns Inv-loop μ-loop
 returns c = each-end path-char (now (c .before .before .before .args .s)) (c .before .loop .i) (c .loop-test .left) (c .before .loop .inv .1)
 

@@ -1,3 +1,5 @@
+-- `desk_print::names::put_chars` meets its contract. The invariant: the texts of the bytes so far are put.
+-- Assumes nothing.
 use Prim.Native.Nat.{_≤_, _-_}
 use denote.Ref.{now}
 use lib.ListN.{length, take}
@@ -7,9 +9,6 @@ use Rattle.desk_print.proofs.Texts.{each-begin, each-turn, each-end}
 use borrow.Author.Needs.{needs}
 use Rattle.desk_print.proofs.names.put_chars.Statement.{statement}
 use Rattle.desk_print.proofs.names.put_chars.Tie as tie
-use Rattle.desk_print.proofs.names.put_chars.Reads as reads
-use Rattle.desk_print.proofs.names.put_chars.Lts as lts
-use Rattle.desk_print.proofs.names.put_char.Reads as put-char-reads
 
 abbrev Inv-loop : tie.InvT-loop
 Inv-loop out₀ s i₀ out i = (i ≤ length s) × Put out₀ (each name-char 0 (take i s)) out
@@ -17,33 +16,26 @@ Inv-loop out₀ s i₀ out i = (i ≤ length s) × Put out₀ (each name-char 0 
 abbrev μ-loop : tie.MeasureT-loop
 μ-loop out₀ s i₀ out i = length s - i
 
--- src/names.rt:34:5
 loop-holds : tie.Need-loop-holds Inv-loop μ-loop
 loop-holds c = (search needs, each-begin name-char (now (c .before .args .s)) (now (c .before .args .out)))
 
--- src/names.rt:35:23
 shared-slice-read-put-char : tie.Need-shared-slice-read-put-char Inv-loop μ-loop
 shared-slice-read-put-char c = search needs
 
--- src/names.rt:35:9
 put-char-requires : tie.Need-put-char-requires Inv-loop μ-loop
 put-char-requires c κs = search needs
 
--- src/names.rt:36:9
 add-i : tie.Need-add-i Inv-loop μ-loop
 add-i c = search needs
 
--- src/names.rt:34:5
 loop-less : tie.Need-loop-less Inv-loop μ-loop
 loop-less c = search needs
 
--- src/names.rt:34:5
 loop-again : tie.Need-loop-again Inv-loop μ-loop
 loop-again c =
     let l = c .before .before .before .before .loop in
     (search needs, each-turn name-char (now (c .before .before .before .before .before .before .args .s)) (l .i) (c .before .before .before .loop-test .taken) (l .inv .1) (c .put-char .ensures))
 
--- src/names.rt:30:1
 returns : tie.Need-returns Inv-loop μ-loop
 returns c = each-end name-char (now (c .before .before .before .args .s)) (c .before .loop .i) (c .loop-test .left) (c .before .loop .inv .1)
 

@@ -1,3 +1,5 @@
+-- `desk_print::names::without_spaces` meets its contract. The invariant: the bytes so far are the whole name, but for spaces at its end.
+-- Assumes nothing.
 use borrow.Author.Needs.{needs}
 use mathlib.Core.Path.{_≡_, ap}
 use Prim.Native.Nat.{_≤_}
@@ -9,8 +11,6 @@ use Rattle.desk_print.specs.Text.{trimmed}
 use Rattle.desk_print.proofs.Texts.{trimmed-here, trimmed-less, trimmed-none}
 use Rattle.desk_print.proofs.names.without_spaces.Statement.{statement}
 use Rattle.desk_print.proofs.names.without_spaces.Tie as tie
-use Rattle.desk_print.proofs.names.without_spaces.Reads as reads
-use Rattle.desk_print.proofs.names.without_spaces.Lts as lts
 
 abbrev Inv-loop : tie.InvT-loop
 Inv-loop s n₀ n = (n ≤ length s) × (trimmed (take n s) ≡ trimmed s)
@@ -18,39 +18,31 @@ Inv-loop s n₀ n = (n ≤ length s) × (trimmed (take n s) ≡ trimmed s)
 abbrev μ-loop : tie.MeasureT-loop
 μ-loop s n₀ n = n
 
--- src/names.rt:45:5
 loop-holds : tie.Need-loop-holds Inv-loop μ-loop
 loop-holds c = (search needs, ap trimmed (take-length (now (c .args .s))))
 
--- src/names.rt:46:14
 sub-if1 : tie.Need-sub-if1 Inv-loop μ-loop
 sub-if1 c = search needs
 
--- src/names.rt:46:12
 shared-slice-read-if1 : tie.Need-shared-slice-read-if1 Inv-loop μ-loop
 shared-slice-read-if1 c = search needs
 
--- src/names.rt:47:13
 returns : tie.Need-returns Inv-loop μ-loop
 returns c =
     let l = c .before .before .before .loop in
     (l .inv .0, trimmed-here (now (c .before .before .before .before .args .s)) (l .n) (c .before .before .loop-test .taken) (l .inv .0) (c .if1 .taken) (l .inv .1))
 
--- src/names.rt:49:9
 sub-n : tie.Need-sub-n Inv-loop μ-loop
 sub-n c = search needs
 
--- src/names.rt:45:5
 loop-less : tie.Need-loop-less Inv-loop μ-loop
 loop-less c = search needs
 
--- src/names.rt:45:5
 loop-again : tie.Need-loop-again Inv-loop μ-loop
 loop-again c =
     let l = c .before .before .before .loop in
     (search needs, trimmed-less (now (c .before .before .before .before .args .s)) (l .n) (c .before .before .loop-test .taken) (l .inv .0) (c .if1 .left) (l .inv .1))
 
--- src/names.rt:41:1
 returns-2 : tie.Need-returns-2 Inv-loop μ-loop
 returns-2 c =
     let l = c .before .loop in
