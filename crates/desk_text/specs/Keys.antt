@@ -1,4 +1,4 @@
--- A word as a key, and the name of a key.
+-- A word as a key.
 use mathlib.Core.Bool.{Bool, true, false, _&&_, _||_}
 use mathlib.Core.List.{List, [], _∷_, _++_}
 use Prim.Native.Nat.{ℕ, _+_, _*_, _-_, _/_, _%_}
@@ -63,19 +63,3 @@ key-or-name Nothing w = name-of w
 -- the key of a word
 unfoldable pub key-of : List ℕ → Number
 key-of w = key-or-name (number-of w) w
-
--- the name of a note: C, C#, D, D#, E, F, F#, G, G#, A, A#, B
-unfoldable pub note-name : ℕ → List ℕ
-note-name n =
-    getD
-    ((67 ∷ []) ∷ (67 ∷ 35 ∷ []) ∷ (68 ∷ []) ∷ (68 ∷ 35 ∷ []) ∷ (69 ∷ []) ∷ (70 ∷ []) ∷ (70 ∷ 35 ∷ []) ∷ (71 ∷ []) ∷ (71 ∷ 35 ∷ []) ∷ (65 ∷ []) ∷ (65 ∷ 35 ∷ []) ∷ (66 ∷ []) ∷ [])
-    n
-    []
-
--- the name of an octave, told by one more: -1, 0, .. 9
-unfoldable pub octave-name : ℕ → List ℕ
-octave-name n = pick (eqb n 0) (45 ∷ 49 ∷ []) ((47 + n) ∷ [])
-
--- the name of a key: its note, and its octave from -1 to 9
-unfoldable pub key-name : ℕ → List ℕ
-key-name k = note-name (k % 12) ++ octave-name (k / 12)

@@ -3,11 +3,9 @@ use mathlib.Core.Path.{_≡_}
 use mathlib.Core.List.{List}
 use Prim.Native.Nat.{ℕ, _+_, _*_, _/_, _^_, _≤_, _<_}
 use lib.ListN.{length}
-use Rattle.util.specs.Limits.{keys}
 use Rattle.desk_text.specs.declared.Number.the-variants.{Is}
 use Rattle.desk_text.specs.Cents.{most, value-after, whole-of, decimals-of, unsigned-of}
 use Rattle.desk_text.specs.Fractions.{step-16384, step-8192, nearest}
-use Rattle.desk_text.specs.Keys.{key-of, key-name}
 
 -- r steps, of so many ten trillionths of a cent, are the nearest to n / 10 ^ d cents: at most half a step away, half-way up
 pub record NearestTo (step r n d : ℕ) : Type 0 where
@@ -29,7 +27,3 @@ NearestOfExact =
     (w : List ℕ) (n : ℕ) → unsigned-of w ≡ Is n → n < most
     → NearestTo step-16384 (nearest step-16384 n) (digits-of w) (places-of w)
     × NearestTo step-8192 (nearest step-8192 n) (digits-of w) (places-of w)
-
--- every key is read back from its name
-abbrev pub NamesBack : Type 0
-NamesBack = (k : ℕ) → k < keys → key-of (key-name k) ≡ Is k
