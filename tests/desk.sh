@@ -230,7 +230,7 @@ verdict "control characters in the name of a file" $?
 printf '60 0\n' | run tune "made$odd" 5 odd; err_is && out_is 'madea\x1B[31m\x7F\x09.syx: 408 bytes written, 1 key set, 127 in equal temperament' && [ -e "made$odd" ]
 verdict "control characters in the name of an output file" $?
 high=$'gr\xc3\xb6\xc3\x9fe\xc2\x9b.syx'
-run list "$high"; [ "$(wc -l <err)" -eq 1 ] && LC_ALL=C grep -q $'^gr\xc3\xb6\xc3\x9fe\\\\x' err && ! LC_ALL=C grep -q $'\xc2\x9b' err
+run list "$high"; [ "$(wc -l <err)" -eq 1 ] && LC_ALL=C grep -q $'^gr\xc3\xb6\xc3\x9fe\xc2\\\\x9B\\.syx: ' err
 verdict "letters of UTF-8 in a name are kept, its control characters are not" $?
 
 # --- another sort of file
