@@ -201,14 +201,6 @@ fn save_message(
     }
 }
 
-// How many keys were set.
-fn keys_set(l: Lines) -> u64 {
-    match l {
-        Lines::Good(n) => n,
-        _ => 0,
-    }
-}
-
 // Writes the key dump of lines as a new file.
 fn save_keys(path: &[u8], program: u8, name: &[u8], s: &[u8], errors: i32) {
     let mut entries = [0u64; KEYS];
@@ -223,7 +215,7 @@ fn save_keys(path: &[u8], program: u8, name: &[u8], s: &[u8], errors: i32) {
             UniversalNonRealTimeMsg::KeyBasedTuningDump(dump),
             name,
             &entries,
-            Made::Keys(keys_set(l)),
+            Made::Keys(keys::keys_set(l)),
             errors,
         );
     }
