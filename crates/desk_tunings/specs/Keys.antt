@@ -1,4 +1,5 @@
 -- The lines of a tuning, as the entries of its keys.
+use mathlib.Core.Bool.{Bool, true, false, _&&_}
 use mathlib.Core.List.{List, [], _∷_}
 use Prim.Native.Nat.{ℕ, suc, _+_, _*_}
 use lib.Dec.{eqb, leb, ltb}
@@ -15,6 +16,26 @@ use Rattle.desk_tunings.specs.Lines.{said-line}
 -- an entry that no line has named
 abbrev pub untold : ℕ
 untold = 18446744073709551615
+
+-- whether lines are good
+unfoldable pub good-lines : Lines → Bool
+good-lines (Good c) = true
+good-lines NoLine = false
+good-lines (NotTwo n) = false
+good-lines (NoKey n) = false
+good-lines (NoCents n) = false
+good-lines (Outside n) = false
+good-lines (Twice n) = false
+
+-- how many keys good lines set
+unfoldable pub set-by : Lines → ℕ
+set-by (Good c) = c
+set-by NoLine = 0
+set-by (NotTwo n) = 0
+set-by (NoKey n) = 0
+set-by (NoCents n) = 0
+set-by (Outside n) = 0
+set-by (Twice n) = 0
 
 -- how putting what line n says goes, where so many keys are set: one more key is set, or the line is wrong
 unfoldable pub put-answer : Said → ℕ → ℕ → List ℕ → Lines
@@ -35,21 +56,13 @@ put-entries said.NoKey es = es
 put-entries said.NoCents es = es
 put-entries said.Outside es = es
 
--- what follows a line that is good, or the answer for one that is not
-unfoldable pub going-on : Lines → (ℕ → Lines × List ℕ) → List ℕ → Lines × List ℕ
-going-on (Good c) next es = next c
-going-on NoLine next es = (NoLine, es)
-going-on (NotTwo n) next es = (NotTwo n, es)
-going-on (NoKey n) next es = (NoKey n, es)
-going-on (NoCents n) next es = (NoCents n, es)
-going-on (Outside n) next es = (Outside n, es)
-going-on (Twice n) next es = (Twice n, es)
-
 -- the answer and the entries behind lines, up to the first that is wrong, from n lines and c keys that are set on
 unfoldable pub read-lines : List (List ℕ) → ℕ → ℕ → List ℕ → Lines × List ℕ
 read-lines [] n c es = (Good c, es)
 read-lines (l ∷ ls) n c es =
-    going-on (put-answer (said-line l) (n + 1) c es) (λ d. read-lines ls (n + 1) d (put-entries (said-line l) es)) (put-entries (said-line l) es)
+    pick (good-lines (put-answer (said-line l) (n + 1) c es))
+    (read-lines ls (n + 1) (set-by (put-answer (said-line l) (n + 1) c es)) (put-entries (said-line l) es))
+    (put-answer (said-line l) (n + 1) c es, put-entries (said-line l) es)
 
 -- the entry of a key in equal temperament
 unfoldable pub equal-entry : ℕ → ℕ
@@ -64,15 +77,9 @@ unfoldable pub filled-from : ℕ → List ℕ → List ℕ
 filled-from key [] = []
 filled-from key (e ∷ es) = filled-entry e key ∷ filled-from (suc key) es
 
--- lines that set no key are none
+-- good lines that set no key are none
 unfoldable pub counted-of : Lines → Lines
-counted-of (Good c) = pick (eqb c 0) NoLine (Good c)
-counted-of NoLine = NoLine
-counted-of (NotTwo n) = NotTwo n
-counted-of (NoKey n) = NoKey n
-counted-of (NoCents n) = NoCents n
-counted-of (Outside n) = Outside n
-counted-of (Twice n) = Twice n
+counted-of l = pick (good-lines l && eqb (set-by l) 0) NoLine l
 
 -- the lines of a text behind its byte order mark, read over so many entries that no line has named
 unfoldable pub read-text : List ℕ → ℕ → Lines × List ℕ

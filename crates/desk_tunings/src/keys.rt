@@ -8,7 +8,7 @@ ghost use Prim.Native.Nat.{_<_, _+_, _*_};
 ghost use lib.ListN.{length, drop, replicate};
 ghost use Rattle.desk_text.specs.Lines.{mark-length, lines-of};
 ghost use Rattle.desk_tunings.specs.Lines.{said-line};
-ghost use Rattle.desk_tunings.specs.Keys.{untold, put-answer, put-entries, read-lines, equal-entry, filled-entry, filled-from, counted-of, read-answer, read-entries};
+ghost use Rattle.desk_tunings.specs.Keys.{untold, good-lines, set-by, put-answer, put-entries, read-lines, equal-entry, filled-entry, filled-from, counted-of, read-answer, read-entries};
 
 // A key that no line has named yet.
 const UNTOLD: u64 = u64::MAX;
@@ -22,6 +22,36 @@ pub enum Lines {
     NoCents(u64),
     Outside(u64),
     Twice(u64),
+}
+
+// Whether lines are good.
+pub fn is_good(l: Lines) -> bool
+    ensures { λ r. ⌜ r ≡ good-lines l ⌝ }
+{
+    match l {
+        Lines::Good(_) => true,
+        Lines::NoLine => false,
+        Lines::NotTwo(_) => false,
+        Lines::NoKey(_) => false,
+        Lines::NoCents(_) => false,
+        Lines::Outside(_) => false,
+        Lines::Twice(_) => false,
+    }
+}
+
+// How many keys good lines set.
+pub fn keys_set(l: Lines) -> u64
+    ensures { λ r. ⌜ r ≡ set-by l ⌝ }
+{
+    match l {
+        Lines::Good(n) => n,
+        Lines::NoLine => 0,
+        Lines::NotTwo(_) => 0,
+        Lines::NoKey(_) => 0,
+        Lines::NoCents(_) => 0,
+        Lines::Outside(_) => 0,
+        Lines::Twice(_) => 0,
+    }
 }
 
 // Puts an entry at its key, which no line has named yet.
@@ -67,10 +97,10 @@ fn put_lines(s: &[u8], entries: &mut [u64]) -> Lines
         n += 1;
         let end = lines::line_end(s, at);
         let l = put_line(&s[at..end], entries, n, set);
-        let Lines::Good(k) = l else {
+        if !is_good(l) {
             return l;
-        };
-        set = k;
+        }
+        set = keys_set(l);
         at = lines::next_line(s, end);
     }
     Lines::Good(set)
@@ -116,8 +146,8 @@ fn fill(entries: &mut [u64])
 fn counted(l: Lines) -> Lines
     ensures { λ r. ⌜ r ≡ counted-of l ⌝ }
 {
-    if let Lines::Good(set) = l {
-        if set == 0 {
+    if is_good(l) {
+        if keys_set(l) == 0 {
             return Lines::NoLine;
         }
     }

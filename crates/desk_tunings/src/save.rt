@@ -4,7 +4,6 @@ use super::errors::are_values;
 use super::errors::is_name;
 use super::errors::seven;
 use super::keys;
-use super::keys::Lines;
 use super::scale;
 use desk_io::output;
 use desk_io::pieces;
@@ -83,14 +82,6 @@ fn save_message(
     }
 }
 
-// How many keys were set.
-fn keys_set(l: Lines) -> u64 {
-    match l {
-        Lines::Good(n) => n,
-        _ => 0,
-    }
-}
-
 // Writes the key dump of lines as a new file.
 fn save_keys(out: &mut Output, path: &[u8], program: u8, name: &[u8], s: &[u8]) {
     let mut entries = [0u64; KEYS];
@@ -106,7 +97,7 @@ fn save_keys(out: &mut Output, path: &[u8], program: u8, name: &[u8], s: &[u8]) 
             UniversalNonRealTimeMsg::KeyBasedTuningDump(dump),
             name,
             &entries,
-            Made::Keys(keys_set(l)),
+            Made::Keys(keys::keys_set(l)),
         );
     }
 }

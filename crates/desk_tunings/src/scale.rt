@@ -9,7 +9,8 @@ use util::signed;
 ghost use mathlib.Core.Path.{_≡_};
 ghost use Prim.Native.Nat.{_<_, _≤_};
 ghost use lib.ListN.{length};
-ghost use Rattle.desk_tunings.specs.Scale.{value-of, is-whole-value};
+ghost use Rattle.desk_text.specs.Cents.{cents-of};
+ghost use Rattle.desk_tunings.specs.Scale.{value-of, refused-as, word-answer, word-values, is-whole-value};
 
 // Zero among the values: a value stands as many ten trillionths of a cent above or below it.
 pub const ZERO: u64 = 2000000000000000;
@@ -45,24 +46,38 @@ fn value_in(d: Decimals) -> u64
     }
 }
 
+// What is wrong with a value that is none: no number, or one outside the range.
+fn refused(d: Decimals, n: u64) -> Values
+    ensures { λ r. ⌜ r ≡ refused-as d n ⌝ }
+{
+    match d {
+        Decimals::Above(_) => Values::Outside(n),
+        Decimals::Below(_) => Values::Outside(n),
+        Decimals::Nothing => Values::NoNumber(n),
+    }
+}
+
 // Puts the value of a word at place n.
 fn put_word(word: &[u8], values: &mut [u64], n: usize) -> Values
-    requires { ⌜ n ≤ length (now values) ⌝ }
+    requires { ⌜ n < length (now values) ⌝ }
+    ensures { λ r. ⌜ r ≡ word-answer (cents-of (now (word .entry))) n ⌝ }
+    ensures { λ _. ⌜ now (values .exit) ≡ word-values (cents-of (now (word .entry))) n (now (values .entry)) ⌝ }
 {
-    let number = n as u64 + 1;
     let d = cents::parse_cents(word);
-    if let Decimals::Nothing = d {
-        return Values::NoNumber(number);
-    }
     let v = value_in(d);
     if v == 0 {
-        return Values::Outside(number);
+        return refused(d, n as u64 + 1);
     }
-    if n < values.len() {
-        values[n] = v;
-        return Values::Good;
+    values[n] = v;
+    Values::Good
+}
+
+// Whether values are good.
+fn is_good(v: Values) -> bool {
+    match v {
+        Values::Good => true,
+        _ => false,
     }
-    Values::TooMany
 }
 
 // Whether there are twelve values.
@@ -77,7 +92,9 @@ fn counted(n: usize) -> Values {
 }
 
 // The first place from a place on where a word begins that is no comment.
-fn next_word(s: &[u8], from: usize) -> usize {
+fn next_word(s: &[u8], from: usize) -> usize
+    ensures { λ r. ⌜ from ≤ r ⌝ }
+{
     let mut at = lines::skip(s, from);
     while at < s.len() {
         if !lines::is_comment(true, s[at]) {
@@ -93,14 +110,14 @@ pub fn read(s: &[u8], values: &mut [u64]) -> Values {
     let mut n = 0;
     let mut at = next_word(s, lines::start(s));
     while at < s.len() {
-        let end = lines::word_end(s, at);
-        if end <= at {
-            return counted(n);
+        if values.len() <= n {
+            return Values::TooMany;
         }
+        let end = lines::word_end(s, at + 1);
         let v = put_word(&s[at..end], values, n);
-        let Values::Good = v else {
+        if !is_good(v) {
             return v;
-        };
+        }
         n += 1;
         at = next_word(s, end);
     }
