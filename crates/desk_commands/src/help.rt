@@ -1,35 +1,35 @@
 // How the desk is used.
 use desk_print::output::Output;
 use desk_print::output::complain;
-use desk_print::put;
+use desk_print::say;
 
 // Puts how the desk is used: the commands.
 fn put_commands(out: &mut Output) {
-    put(
+    say(
         out,
         b"desk list [--all] [KIND] FILE..          the frames of captures; --all: also what is no frame, and why\n",
     );
-    put(
+    say(
         out,
         b"desk show [KIND] FILE OFFSET             one message, every field\n",
     );
-    put(
+    say(
         out,
         b"desk extract [KIND] FILE OFFSET OUT      the file of a file dump, or a frame as it stands\n",
     );
-    put(
+    say(
         out,
         b"desk tune OUT PROGRAM NAME               a tuning of the lines KEY CENTS or KEY - on standard input\n",
     );
-    put(
+    say(
         out,
         b"desk scale OUT BANK PROGRAM NAME         a scale of twelve numbers of cents on standard input\n",
     );
-    put(
+    say(
         out,
         b"desk --help                              these lines\n",
     );
-    put(
+    say(
         out,
         b"desk --version                           the version\n",
     );
@@ -38,15 +38,15 @@ fn put_commands(out: &mut Output) {
 // Puts how the desk is used.
 pub fn help(out: &mut Output) {
     put_commands(out);
-    put(
+    say(
         out,
         b"KIND is bank or wav, the kind of sound file that is open on the instrument; left out, it is bank.\n",
     );
-    put(
+    say(
         out,
         b"FILE or OUT may be -, for standard input or output. A line may end in a comment, # or !.\n",
     );
-    put(
+    say(
         out,
         b"Nothing on standard error means success: there is no exit status. Progress is told on a terminal only.\n",
     );
@@ -54,7 +54,7 @@ pub fn help(out: &mut Output) {
 
 // Puts the version.
 pub fn version(out: &mut Output) {
-    put(out, b"desk 0.1.0\n");
+    say(out, b"desk 0.1.0\n");
 }
 
 // Says that there is no command.

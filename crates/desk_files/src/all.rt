@@ -4,7 +4,7 @@ use super::list::Tally;
 use desk_io::pieces;
 use desk_print::number;
 use desk_print::output::Output;
-use desk_print::put;
+use desk_print::say;
 use messages::file_reference::Kind;
 use reader::lent::Reading;
 use util::groups::at;
@@ -12,15 +12,15 @@ use util::groups::at;
 // The line of a stretch that ends without F7.
 fn unended(out: &mut Output, offset: u64, len: usize, why: &[u8]) {
     frames::put_place(out, offset, len);
-    put(out, b"-- ");
-    put(out, why);
-    put(out, b"\n");
+    say(out, b"-- ");
+    say(out, why);
+    say(out, b"\n");
 }
 
 // The line of a stretch whose length is not known.
 fn endless(out: &mut Output, offset: u64) {
     number(out, offset);
-    put(
+    say(
         out,
         b" ? -- longer than any frame; its end was not looked for\n",
     );

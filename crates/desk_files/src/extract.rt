@@ -8,7 +8,7 @@ use desk_io::pieces;
 use desk_io::pieces::PIECE;
 use desk_io::pieces::Piece;
 use desk_print::output::Output;
-use desk_print::put;
+use desk_print::say;
 use messages::file_dump::FileDumpMsg;
 use messages::file_reference::Kind;
 use messages::system_exclusive::UniversalNonRealTimeMsg;
@@ -181,7 +181,7 @@ fn join_pieces(
 // Says how many bytes a file got.
 fn tell_written(out: &mut Output, path: &[u8], count: u64) {
     if output::written(out, path, count) {
-        put(out, b"\n");
+        say(out, b"\n");
     }
 }
 
@@ -277,7 +277,7 @@ fn extract_frame(
         Found::File => return true,
         Found::Frame => {
             if output::save(out, to, stretch) {
-                put(out, b"\n");
+                say(out, b"\n");
             }
         }
         Found::Refused(r) => frames::complain(out, path, stretch, offset, r),

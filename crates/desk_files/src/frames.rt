@@ -6,7 +6,7 @@ use desk_print::hex;
 use desk_print::number;
 use desk_print::output;
 use desk_print::output::Output;
-use desk_print::put;
+use desk_print::say;
 use messages::file_reference::Kind;
 use reader::lent::Reading;
 use util::groups::at;
@@ -64,7 +64,7 @@ fn is_double(first: u8) -> bool {
 pub fn put_head(out: &mut Output, frame: &[u8]) {
     hex(out, at(frame, 3));
     if is_double(at(frame, 3)) {
-        put(out, b" ");
+        say(out, b" ");
         hex(out, at(frame, 4));
     }
 }
@@ -72,9 +72,9 @@ pub fn put_head(out: &mut Output, frame: &[u8]) {
 // Puts the offset and the length of a stretch.
 pub fn put_place(out: &mut Output, offset: u64, len: usize) {
     number(out, offset);
-    put(out, b" ");
+    say(out, b" ");
     number(out, len as u64);
-    put(out, b" ");
+    say(out, b" ");
 }
 
 // Puts what a frame is, in one line.
@@ -103,9 +103,9 @@ fn describe(out: &mut Output, frame: &[u8], kind: Kind) {
 pub fn line(out: &mut Output, frame: &[u8], offset: u64, kind: Kind) {
     put_place(out, offset, frame.len());
     put_head(out, frame);
-    put(out, b" ");
+    say(out, b" ");
     describe(out, frame, kind);
-    put(out, b"\n");
+    say(out, b"\n");
 }
 
 // The line of a stretch that is no frame.
@@ -114,19 +114,19 @@ pub fn refused(out: &mut Output, stretch: &[u8], offset: u64, r: Refusal) {
     match r {
         Refusal::Field => put_head(out, stretch),
         Refusal::Sum => put_head(out, stretch),
-        _ => put(out, b"--"),
+        _ => say(out, b"--"),
     }
-    put(out, b" ");
+    say(out, b" ");
     refusals::explain(out, stretch, r);
-    put(out, b"\n");
+    say(out, b"\n");
 }
 
 // The error line of a stretch that is no frame.
 pub fn complain(out: &mut Output, path: &[u8], stretch: &[u8], offset: u64, r: Refusal) {
     names::begin_line(out, path);
-    put(out, b"at offset ");
+    say(out, b"at offset ");
     number(out, offset);
-    put(out, b": ");
+    say(out, b": ");
     refusals::explain(out, stretch, r);
     output::end_line(out);
 }

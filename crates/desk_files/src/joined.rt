@@ -5,7 +5,7 @@ use desk_io::pieces::sum;
 use desk_print::number;
 use desk_print::output::Output;
 use desk_print::output::end_line;
-use desk_print::put;
+use desk_print::say;
 use desk_print::units;
 use messages::file_dump::FileDumpMsg;
 use messages::system_exclusive::UniversalNonRealTimeMsg;
@@ -187,7 +187,7 @@ impl Joined {
 
     // Puts how a dump broke off, and after how many bytes.
     fn put_broken(self, out: &mut Output, how: &[u8]) {
-        put(out, how);
+        say(out, how);
         units(out, self.total, b"byte");
     }
 
@@ -196,11 +196,11 @@ impl Joined {
         let end = self.end;
         match end {
             End::Missing(n) => {
-                put(out, b"packet ");
+                say(out, b"packet ");
                 number(out, n);
-                put(out, b" of the file dump is missing");
+                say(out, b" of the file dump is missing");
             }
-            End::Unwritten => put(out, b"could not be written out"),
+            End::Unwritten => say(out, b"could not be written out"),
             End::Cancelled => self.put_broken(out, b"the file dump is cancelled after "),
             _ => self.put_broken(out, b"the file dump is cut after "),
         }
@@ -211,9 +211,9 @@ impl Joined {
         names::begin_line(out, path);
         self.put_reason(out);
         if names::is_dash(to) {
-            put(out, b"; what is written is not whole");
+            say(out, b"; what is written is not whole");
         } else {
-            put(out, b"; nothing is left");
+            say(out, b"; nothing is left");
         }
         end_line(out);
     }

@@ -11,7 +11,7 @@ use desk_print::names;
 use desk_print::number;
 use desk_print::output;
 use desk_print::output::Output;
-use desk_print::put;
+use desk_print::say;
 use desk_print::units;
 use messages::file_reference::Kind;
 use walk::Walked;
@@ -286,9 +286,9 @@ fn list_pieces(
 fn put_others(out: &mut Output, others: u64) {
     number(out, others);
     if others == 1 {
-        return put(out, b" stretch that is no frame\n");
+        return say(out, b" stretch that is no frame\n");
     }
-    put(out, b" stretches that are no frame\n");
+    say(out, b" stretches that are no frame\n");
 }
 
 // Puts how many frames there are; and how many stretches are none.
@@ -298,13 +298,13 @@ fn put_tally(out: &mut Output, t: Tally, scope: Scope) {
         Scope::All => put_others(out, t.others),
     }
     number(out, t.frames);
-    put(out, b" frames\n");
+    say(out, b" frames\n");
 }
 
 // Puts how many files there are, and the tally of all.
 pub fn put_sum(out: &mut Output, t: Tally, scope: Scope) {
     units(out, t.files, b"file");
-    put(out, b":\n");
+    say(out, b":\n");
     put_tally(out, t, scope);
 }
 
@@ -339,7 +339,7 @@ fn list_open(
 fn put_name(out: &mut Output, path: &[u8], is_named: bool) {
     if is_named {
         names::path(out, path);
-        put(out, b":\n");
+        say(out, b":\n");
     }
 }
 

@@ -8,7 +8,7 @@ use desk_messages::refusals;
 use desk_messages::system;
 use desk_print::fields::Style;
 use desk_print::output::Output;
-use desk_print::put;
+use desk_print::say;
 use desk_print::units;
 use messages::file_dump::FileDumpMsg;
 use messages::file_reference::Kind;
@@ -52,24 +52,24 @@ fn first(entries: &[u64], n: usize) -> &[u64] {
 
 // The line of a sum that is wrong.
 fn show_sums(out: &mut Output, frame: &[u8]) {
-    put(out, b"sum: wrong");
+    say(out, b"sum: wrong");
     refusals::sums(out, frame);
-    put(out, b"; shown as if it were right\n");
+    say(out, b"; shown as if it were right\n");
 }
 
 // The lines that every message has: the length of its frame, its head and device; before these a sum that is wrong.
 fn show_common(out: &mut Output, frame: &[u8], is_right: bool, device: DeviceID) {
-    put(out, b"frame: ");
+    say(out, b"frame: ");
     units(out, frame.len() as u64, b"byte");
-    put(out, b"\n");
+    say(out, b"\n");
     if !is_right {
         show_sums(out, frame);
     }
-    put(out, b"head: ");
+    say(out, b"head: ");
     frames::put_head(out, frame);
-    put(out, b"\ndevice: ");
+    say(out, b"\ndevice: ");
     system::put_device(out, device);
-    put(out, b"\n");
+    say(out, b"\n");
 }
 
 // The lines of a message that was read of a frame.

@@ -2,7 +2,7 @@
 use desk_print::number;
 use desk_print::output;
 use desk_print::output::Output;
-use desk_print::put;
+use desk_print::say;
 
 // Whether a name is -.
 pub fn is_dash(path: &[u8]) -> bool {
@@ -23,15 +23,15 @@ pub fn begin_line(out: &mut Output, path: &[u8]) {
 // Writes an error line about an input file.
 pub fn complain(out: &mut Output, path: &[u8], why: &[u8]) {
     begin_line(out, path);
-    put(out, why);
+    say(out, why);
     output::end_line(out);
 }
 
 // The same with a number between two texts.
 pub fn complain_number(out: &mut Output, path: &[u8], before: &[u8], n: u64, after: &[u8]) {
     begin_line(out, path);
-    put(out, before);
+    say(out, before);
     number(out, n);
-    put(out, after);
+    say(out, after);
     output::end_line(out);
 }

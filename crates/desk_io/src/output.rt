@@ -5,7 +5,7 @@ use desk_print::number;
 use desk_print::output;
 use desk_print::output::Output;
 use desk_print::output::complain;
-use desk_print::put;
+use desk_print::say;
 use libc::STDOUT_FILENO;
 
 // Makes a file for writing; a negative number, and a line that says why, where that fails.
@@ -27,7 +27,7 @@ pub fn create(out: &mut Output, path: &[u8]) -> i32 {
 // Writes bytes to a file that was made; whether they are written.
 pub fn write(out: &mut Output, fd: i32, bytes: &[u8]) -> bool {
     if fd == STDOUT_FILENO {
-        put(out, bytes);
+        say(out, bytes);
         return !output::is_failed(out);
     }
     io::write_all(fd, bytes)
@@ -62,9 +62,9 @@ pub fn unwritten(out: &mut Output, path: &[u8]) {
 // Puts bytes or a byte, behind their number.
 fn put_bytes(out: &mut Output, n: u64) {
     if n == 1 {
-        return put(out, b" byte written");
+        return say(out, b" byte written");
     }
-    put(out, b" bytes written");
+    say(out, b" bytes written");
 }
 
 // Says how many bytes a file got, without a line end; nothing of standard output. Whether it is said.
@@ -73,7 +73,7 @@ pub fn written(out: &mut Output, path: &[u8], count: u64) -> bool {
         return false;
     }
     names::path(out, path);
-    put(out, b": ");
+    say(out, b": ");
     number(out, count);
     put_bytes(out, count);
     true

@@ -4,7 +4,7 @@ use desk_print::fields;
 use desk_print::fields::Style;
 use desk_print::names;
 use desk_print::output::Output;
-use desk_print::put;
+use desk_print::say;
 use messages::file_dump::FileDumpMsg;
 use messages::file_dump::FileType;
 use messages::system_exclusive::DeviceID;
@@ -12,12 +12,12 @@ use messages::system_exclusive::DeviceID;
 // The name of a file type.
 fn put_type(out: &mut Output, t: FileType) {
     match t {
-        FileType::MIDI => put(out, b"MIDI"),
-        FileType::MIEX => put(out, b"MIEX"),
-        FileType::ESEQ => put(out, b"ESEQ"),
-        FileType::TEXT => put(out, b"TEXT"),
-        FileType::BIN => put(out, b"BIN"),
-        FileType::MAC => put(out, b"MAC"),
+        FileType::MIDI => say(out, b"MIDI"),
+        FileType::MIEX => say(out, b"MIEX"),
+        FileType::ESEQ => say(out, b"ESEQ"),
+        FileType::TEXT => say(out, b"TEXT"),
+        FileType::BIN => say(out, b"BIN"),
+        FileType::MAC => say(out, b"MAC"),
         FileType::Custom(a, b, c, d) => names::quoted_four(out, a, b, c, d),
     }
 }
@@ -25,8 +25,8 @@ fn put_type(out: &mut Output, t: FileType) {
 // Begins the type of a file.
 fn begin_type(out: &mut Output, style: Style) {
     match style {
-        Style::Line => put(out, b" of type "),
-        Style::Lines => put(out, b"type: "),
+        Style::Line => say(out, b" of type "),
+        Style::Lines => say(out, b"type: "),
     }
 }
 

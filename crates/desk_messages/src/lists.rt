@@ -6,7 +6,7 @@ use desk_print::hex_all;
 use desk_print::names;
 use desk_print::number;
 use desk_print::output::Output;
-use desk_print::put;
+use desk_print::say;
 use messages::file_reference::SoundFileMap;
 use messages::tuning::KeyTuning;
 use messages::tuning::MaybeTuning;
@@ -37,9 +37,9 @@ fn from_key(key: u8, t: Tuning) -> Signed
 
 // Puts a tuning: its semitone, the cents above it, the difference from equal temperament.
 fn put_tuning(out: &mut Output, key: u8, t: Tuning) {
-    put(out, b" semitone ");
+    say(out, b" semitone ");
     number(out, wide(t.semitone));
-    put(out, b" ");
+    say(out, b" ");
     cents::decimals(
         out,
         Signed {
@@ -47,18 +47,18 @@ fn put_tuning(out: &mut Output, key: u8, t: Tuning) {
             amount: cents::ten_thousandths(t.fraction as u64, 16384),
         },
     );
-    put(out, b" cents, ");
+    say(out, b" cents, ");
     cents::decimals(out, cents::in_cents(from_key(key, t), 16384));
-    put(out, b" from equal temperament\n");
+    say(out, b" from equal temperament\n");
 }
 
 // A line for a key: its number, its name, its tuning.
 fn key_line(out: &mut Output, key: u8, tuning: MaybeTuning) {
     number(out, wide(key));
-    put(out, b" ");
+    say(out, b" ");
     names::key(out, key);
     match tuning {
-        MaybeTuning::NoTuning => put(out, b" -\n"),
+        MaybeTuning::NoTuning => say(out, b" -\n"),
         MaybeTuning::Tuned(t) => put_tuning(out, key, t),
     }
 }
@@ -94,26 +94,26 @@ pub fn changes(out: &mut Output, entries: &[u64]) {
 // Puts drums, where a map is of drums.
 fn put_drums(out: &mut Output, is_drum: bool) {
     if is_drum {
-        put(out, b" drums");
+        say(out, b" drums");
     }
 }
 
 // The line of a map of a sound file.
 fn map_line(out: &mut Output, entry: u64) {
     let m = SoundFileMap::from_entry(entry);
-    put(out, b"map: bank ");
+    say(out, b"map: bank ");
     number(out, m.src_bank as u64);
-    put(out, b" program ");
+    say(out, b" program ");
     number(out, m.src_prog as u64);
     put_drums(out, m.src_drum);
-    put(out, b" to bank ");
+    say(out, b" to bank ");
     number(out, m.dst_bank as u64);
-    put(out, b" program ");
+    say(out, b" program ");
     number(out, m.dst_prog as u64);
     put_drums(out, m.dst_drum);
-    put(out, b", volume ");
+    say(out, b", volume ");
     number(out, m.volume as u64);
-    put(out, b"\n");
+    say(out, b"\n");
 }
 
 // The lines of the maps of a sound file.
@@ -127,9 +127,9 @@ pub fn maps(out: &mut Output, entries: &[u64]) {
 
 // The bytes of a file packet in a line.
 pub fn data(out: &mut Output, s: &[u8]) {
-    put(out, b"data:");
+    say(out, b"data:");
     hex_all(out, s);
-    put(out, b"\n");
+    say(out, b"\n");
 }
 
 // A signed value of one group.
@@ -149,7 +149,7 @@ fn signed_2(v: i16) -> Signed
 // Puts a signed value of two groups, in 8,192nds of a semitone, in cents.
 fn put_cents_2(out: &mut Output, v: i16) {
     cents::decimals(out, cents::in_cents(signed_2(v), 8192));
-    put(out, b" cents\n");
+    say(out, b" cents\n");
 }
 
 // The fine tuning of a WAV map, where every field has a line.
@@ -157,7 +157,7 @@ pub fn fine(out: &mut Output, style: Style, v: i16) {
     match style {
         Style::Line => {}
         Style::Lines => {
-            put(out, b"fine tuning: ");
+            say(out, b"fine tuning: ");
             put_cents_2(out, v);
         }
     }
@@ -166,15 +166,15 @@ pub fn fine(out: &mut Output, style: Style, v: i16) {
 // A line for a note of a scale of one byte a note.
 fn note_1(out: &mut Output, note: u8, v: i8) {
     names::note(out, note);
-    put(out, b": ");
+    say(out, b": ");
     cents::whole(out, signed_1(v));
-    put(out, b" cents\n");
+    say(out, b" cents\n");
 }
 
 // A line for a note of a scale of two bytes a note.
 fn note_2(out: &mut Output, note: u8, v: i16) {
     names::note(out, note);
-    put(out, b": ");
+    say(out, b": ");
     put_cents_2(out, v);
 }
 

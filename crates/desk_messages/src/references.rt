@@ -3,7 +3,7 @@ use super::lists;
 use desk_print::fields;
 use desk_print::fields::Style;
 use desk_print::output::Output;
-use desk_print::put;
+use desk_print::say;
 use messages::file_reference::FileReferenceMsg;
 use messages::file_reference::FileReferenceType;
 use messages::file_reference::SelectMap;
@@ -12,9 +12,9 @@ use messages::file_reference::WAVMap;
 // The name of a file type.
 fn put_type(out: &mut Output, t: FileReferenceType) {
     match t {
-        FileReferenceType::DLS => put(out, b"DLS"),
-        FileReferenceType::SF2 => put(out, b"SF2"),
-        FileReferenceType::WAV => put(out, b"WAV"),
+        FileReferenceType::DLS => say(out, b"DLS"),
+        FileReferenceType::SF2 => say(out, b"SF2"),
+        FileReferenceType::WAV => say(out, b"WAV"),
     }
 }
 

@@ -3,7 +3,7 @@ use desk_print::fields;
 use desk_print::fields::Style;
 use desk_print::hex_all;
 use desk_print::output::Output;
-use desk_print::put;
+use desk_print::say;
 use messages::sample_dump::ExtendedLoopType;
 use messages::sample_dump::ExtendedSampleDumpMsg;
 use messages::sample_dump::LoopNumber;
@@ -13,28 +13,28 @@ use messages::sample_dump::SampleDumpMsg;
 // The words of a loop type.
 fn put_loop(out: &mut Output, t: LoopType) {
     match t {
-        LoopType::Forward => put(out, b"forward"),
-        LoopType::BiDirectional => put(out, b"forward and backward"),
-        LoopType::Off => put(out, b"off"),
+        LoopType::Forward => say(out, b"forward"),
+        LoopType::BiDirectional => say(out, b"forward and backward"),
+        LoopType::Off => say(out, b"off"),
     }
 }
 
 // The words of an extended loop type.
 fn put_extended_loop(out: &mut Output, t: ExtendedLoopType) {
     match t {
-        ExtendedLoopType::Forward => put(out, b"forward"),
-        ExtendedLoopType::BiDirectional => put(out, b"forward and backward"),
-        ExtendedLoopType::ForwardRelease => put(out, b"forward, with release"),
-        ExtendedLoopType::BiDirectionalRelease => put(out, b"forward and backward, with release"),
-        ExtendedLoopType::Backward => put(out, b"backward"),
-        ExtendedLoopType::BackwardBiDirectional => put(out, b"backward and forward"),
-        ExtendedLoopType::BackwardRelease => put(out, b"backward, with release"),
-        ExtendedLoopType::BackwardBiDirectionalRelease => put(
+        ExtendedLoopType::Forward => say(out, b"forward"),
+        ExtendedLoopType::BiDirectional => say(out, b"forward and backward"),
+        ExtendedLoopType::ForwardRelease => say(out, b"forward, with release"),
+        ExtendedLoopType::BiDirectionalRelease => say(out, b"forward and backward, with release"),
+        ExtendedLoopType::Backward => say(out, b"backward"),
+        ExtendedLoopType::BackwardBiDirectional => say(out, b"backward and forward"),
+        ExtendedLoopType::BackwardRelease => say(out, b"backward, with release"),
+        ExtendedLoopType::BackwardBiDirectionalRelease => say(
             out,
             b"backward and forward, with release",
         ),
-        ExtendedLoopType::BackwardOneShot => put(out, b"backward once"),
-        ExtendedLoopType::OneShot => put(out, b"forward once"),
+        ExtendedLoopType::BackwardOneShot => say(out, b"backward once"),
+        ExtendedLoopType::OneShot => say(out, b"forward once"),
     }
 }
 
@@ -44,12 +44,12 @@ fn loop_number(out: &mut Output, style: Style, n: LoopNumber) {
         LoopNumber::Loop(k) => fields::named(out, style, b"loop", k as u64),
         LoopNumber::RequestAll => {
             fields::begin(out, style, b"loop");
-            put(out, b"all");
+            say(out, b"all");
             fields::end(out, style);
         }
         LoopNumber::DeleteAll => {
             fields::begin(out, style, b"loop");
-            put(out, b"all, to be deleted");
+            say(out, b"all, to be deleted");
             fields::end(out, style);
         }
     }
@@ -78,9 +78,9 @@ fn sample_bytes(out: &mut Output, style: Style, s: &[u8]) {
     match style {
         Style::Line => {}
         Style::Lines => {
-            put(out, b"data:");
+            say(out, b"data:");
             hex_all(out, s);
-            put(out, b"\n");
+            say(out, b"\n");
         }
     }
 }

@@ -4,7 +4,7 @@ use desk_print::fields::Style;
 use desk_print::hex;
 use desk_print::number;
 use desk_print::output::Output;
-use desk_print::put;
+use desk_print::say;
 use messages::system_exclusive::DeviceID;
 use messages::system_exclusive::IdentityReply;
 use messages::system_exclusive::ManufacturerID;
@@ -14,14 +14,14 @@ use messages::system_exclusive::SoftwareRevision;
 pub fn put_device(out: &mut Output, d: DeviceID) {
     match d {
         DeviceID::Device(n) => number(out, n as u64),
-        DeviceID::AllCall => put(out, b"all"),
+        DeviceID::AllCall => say(out, b"all"),
     }
 }
 
 // A byte in hexadecimal digits, marked as such.
 fn put_marked(out: &mut Output, b: u8) {
     hex(out, b);
-    put(out, b"h");
+    say(out, b"h");
 }
 
 // The maker of an identity reply, in hexadecimal digits.
@@ -29,9 +29,9 @@ fn put_maker(out: &mut Output, id: ManufacturerID) {
     match id {
         ManufacturerID::OneByte(a) => put_marked(out, a),
         ManufacturerID::Extended(a, b) => {
-            put(out, b"00h ");
+            say(out, b"00h ");
             put_marked(out, a);
-            put(out, b" ");
+            say(out, b" ");
             put_marked(out, b);
         }
     }
@@ -40,11 +40,11 @@ fn put_maker(out: &mut Output, id: ManufacturerID) {
 // The four numbers of a revision.
 fn put_revision(out: &mut Output, r: SoftwareRevision) {
     number(out, r.first as u64);
-    put(out, b".");
+    say(out, b".");
     number(out, r.second as u64);
-    put(out, b".");
+    say(out, b".");
     number(out, r.third as u64);
-    put(out, b".");
+    say(out, b".");
     number(out, r.fourth as u64);
 }
 

@@ -4,7 +4,7 @@ use desk_print::fields;
 use desk_print::fields::Style;
 use desk_print::number;
 use desk_print::output::Output;
-use desk_print::put;
+use desk_print::say;
 use desk_print::units;
 use messages::tuning::ChannelBitMap;
 use messages::tuning::KeyBasedTuningDump;
@@ -88,7 +88,7 @@ pub fn note_change(out: &mut Output, style: Style, m: TuningNoteChange, places: 
 fn put_channel(out: &mut Output, channels: u16, c: u32) {
     if c < 16 {
         if channels >> c & 1 == 1 {
-            put(out, b" ");
+            say(out, b" ");
             number(out, c as u64 + 1);
         }
     }
@@ -108,11 +108,11 @@ fn channel_map(out: &mut Output, style: Style, m: ChannelBitMap) {
     let channels = m.channels;
     if channels == 65535 {
         fields::begin_plain(out, style, b"channels");
-        put(out, b"all channels");
+        say(out, b"all channels");
     } else {
         fields::begin_plain(out, style, b"channels");
         units(out, m.how_many() as u64, b"channel");
-        put(out, b":");
+        say(out, b":");
         put_channels(out, channels);
     }
     fields::end(out, style);

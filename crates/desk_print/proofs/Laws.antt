@@ -39,7 +39,7 @@ put-as {a} {t} {u} {b} e p =
 pub put-gathered : {a t b : List ℕ} → Gathered a t b → Put a t b
 put-gathered g = record { written = []; whole = λ s. g .joined; sound = λ s. sym (g .flag) ∙ s }
 
--- where nothing is gathered before and after, all of the text is written out
+-- where nothing is gathered afterwards, all has left the room
 pub put-empty : {a b : List ℕ} (t : List ℕ) → gathered b ≡ [] → (Sound b → Sound a) → Put a t b
 put-empty {a} {b} t e s =
     record {
@@ -52,7 +52,7 @@ put-empty {a} {b} t e s =
 pub put-failed : {a t b : List ℕ} → (Sound b → ⊥) → Put a t b
 put-failed n = record { written = []; whole = λ s. absurd (n s); sound = λ s. absurd (n s) }
 
--- where nothing was altered before and after what was gathered is written out
+-- a text is put after what was gathered has left the room, from a state that is the same
 pub put-flushed : {a b c d e t : List ℕ} → b ≡ a → Flushed b c → d ≡ c → Put d t e → Put a t e
 put-flushed {a} {b} {c} {d} {e} {t} p f q r =
     subst (λ (x : List ℕ). Put x t e) p (put-put (f .put) (subst (λ (x : List ℕ). Put x t e) q r))
@@ -93,6 +93,16 @@ none-gathered o e = ap (λ (n : ℕ). take n o) e
 
 pub flushed : {a b : List ℕ} → count-of b ≡ 0 → (Sound b → Sound a) → Flushed a b
 flushed {a} {b} n s = let e = none-gathered b n in record { put = put-empty [] e s; none = n; empty = e }
+
+-- the first bytes, as many as the count says, are those that are gathered
+pub gathered-part : {r : List ℕ} {n : ℕ} (o : List ℕ) → n ≡ count-of o → r ≡ take n (drop 0 o) → r ≡ gathered o
+unfolding gathered
+gathered-part {r} {n} o e p = p ∙ ap (λ (k : ℕ). take k o) e
+
+-- the count is 0 after a write that altered nothing, unless it has failed
+pub flushed-after : {a b c : List ℕ} → (Sound b → b ≡ a) → Counted b 0 c → Flushed a c
+flushed-after {a} {b} {c} e k =
+    flushed (k .count) (λ s. let z = sym (k .flag) ∙ s in subst (λ (x : List ℕ). Sound x) (e z) z)
 
 -- a byte that remembers a failure
 pub failed : {o x : List ℕ} → length o ≡ 65539 → x ≡ set o 65537 1 → Failed o x

@@ -22,7 +22,7 @@ pub record Fresh (o : List ℕ) : Type 0 where
   pub none : count-of o ≡ 0
   pub sound : Sound o
 
--- a text is put: unless a write has failed, what was gathered and the text behind it are what was written out on the way and what is gathered now
+-- a text is put: unless a write has failed, what was gathered and the text behind it are, in order, the bytes that left the room to be written and those that are gathered now (what a write does with them no contract says)
 pub record Put (before text after : List ℕ) : Type 0 where
   pub written : List ℕ
   pub whole : Sound after → written ++ gathered after ≡ gathered before ++ text
@@ -51,7 +51,7 @@ pub record Tried (before text after : List ℕ) (r : Bool) : Type 0 where
   pub refused : r ≡ false → after ≡ before
   pub full : r ≡ false → 65535 < count-of before + length text
 
--- all that was gathered is written out, or a write has failed; nothing is gathered now
+-- all that was gathered has left the room to be written, unless a write has failed; nothing is gathered now
 pub record Flushed (before after : List ℕ) : Type 0 where
   pub put : Put before [] after
   pub none : count-of after ≡ 0

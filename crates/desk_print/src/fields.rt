@@ -2,7 +2,7 @@
 use super::grouped;
 use super::names;
 use super::output::Output;
-use super::put;
+use super::say;
 use super::units;
 
 // One line with the main fields, or a line for each field.
@@ -14,11 +14,11 @@ pub enum Style {
 // Begins a message.
 pub fn title(out: &mut Output, style: Style, name: &[u8]) {
     match style {
-        Style::Line => put(out, name),
+        Style::Line => say(out, name),
         Style::Lines => {
-            put(out, b"message: ");
-            put(out, name);
-            put(out, b"\n");
+            say(out, b"message: ");
+            say(out, name);
+            say(out, b"\n");
         }
     }
 }
@@ -27,13 +27,13 @@ pub fn title(out: &mut Output, style: Style, name: &[u8]) {
 pub fn begin(out: &mut Output, style: Style, label: &[u8]) {
     match style {
         Style::Line => {
-            put(out, b", ");
-            put(out, label);
-            put(out, b" ");
+            say(out, b", ");
+            say(out, label);
+            say(out, b" ");
         }
         Style::Lines => {
-            put(out, label);
-            put(out, b": ");
+            say(out, label);
+            say(out, b": ");
         }
     }
 }
@@ -41,10 +41,10 @@ pub fn begin(out: &mut Output, style: Style, label: &[u8]) {
 // Begins a field that is not named in a line.
 pub fn begin_plain(out: &mut Output, style: Style, label: &[u8]) {
     match style {
-        Style::Line => put(out, b", "),
+        Style::Line => say(out, b", "),
         Style::Lines => {
-            put(out, label);
-            put(out, b": ");
+            say(out, label);
+            say(out, b": ");
         }
     }
 }
@@ -53,7 +53,7 @@ pub fn begin_plain(out: &mut Output, style: Style, label: &[u8]) {
 pub fn end(out: &mut Output, style: Style) {
     match style {
         Style::Line => {}
-        Style::Lines => put(out, b"\n"),
+        Style::Lines => say(out, b"\n"),
     }
 }
 
@@ -68,7 +68,7 @@ pub fn named(out: &mut Output, style: Style, label: &[u8], n: u64) {
 pub fn measure(out: &mut Output, style: Style, label: &[u8], n: u64, unit: &[u8]) {
     begin_plain(out, style, label);
     grouped(out, n);
-    put(out, unit);
+    say(out, unit);
     end(out, style);
 }
 
@@ -82,10 +82,10 @@ pub fn counted(out: &mut Output, style: Style, label: &[u8], n: u64, unit: &[u8]
 // Begins a field that follows the words before it without a comma.
 pub fn begin_close(out: &mut Output, style: Style, label: &[u8]) {
     match style {
-        Style::Line => put(out, b" "),
+        Style::Line => say(out, b" "),
         Style::Lines => {
-            put(out, label);
-            put(out, b": ");
+            say(out, label);
+            say(out, b": ");
         }
     }
 }
@@ -108,13 +108,13 @@ pub fn close(out: &mut Output, style: Style, label: &[u8], n: u64) {
 pub fn first(out: &mut Output, style: Style, label: &[u8], n: u64) {
     match style {
         Style::Line => {
-            put(out, b" ");
-            put(out, label);
-            put(out, b" ");
+            say(out, b" ");
+            say(out, label);
+            say(out, b" ");
         }
         Style::Lines => {
-            put(out, label);
-            put(out, b": ");
+            say(out, label);
+            say(out, b": ");
         }
     }
     grouped(out, n);
@@ -126,10 +126,10 @@ pub fn detail(out: &mut Output, style: Style, label: &[u8], n: u64) {
     match style {
         Style::Line => {}
         Style::Lines => {
-            put(out, label);
-            put(out, b": ");
+            say(out, label);
+            say(out, b": ");
             grouped(out, n);
-            put(out, b"\n");
+            say(out, b"\n");
         }
     }
 }
@@ -139,11 +139,11 @@ pub fn flag(out: &mut Output, style: Style, label: &[u8], is_set: bool) {
     match style {
         Style::Line => {}
         Style::Lines => {
-            put(out, label);
+            say(out, label);
             if is_set {
-                put(out, b": yes\n");
+                say(out, b": yes\n");
             } else {
-                put(out, b": no\n");
+                say(out, b": no\n");
             }
         }
     }

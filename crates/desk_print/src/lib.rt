@@ -18,6 +18,11 @@ pub fn put(out: &mut Output, text: &[u8])
     output::add(out, text);
 }
 
+// Puts words on standard output: as put, for callers whose contracts say nothing of them, which are checked faster without what put ensures.
+pub fn say(out: &mut Output, text: &[u8]) {
+    put(out, text);
+}
+
 // Puts a number, without marks between its digits.
 pub fn number(out: &mut Output, n: u64)
     ensures { λ _. ⌜ Put (now (out .entry)) (decimal n) (now (out .exit)) ⌝ }
@@ -75,10 +80,10 @@ pub fn grouped(out: &mut Output, n: u64)
 // Puts a number with its unit, in the plural but for 1.
 pub fn units(out: &mut Output, n: u64, unit: &[u8]) {
     grouped(out, n);
-    put(out, b" ");
-    put(out, unit);
+    say(out, b" ");
+    say(out, unit);
     if n != 1 {
-        put(out, b"s");
+        say(out, b"s");
     }
 }
 

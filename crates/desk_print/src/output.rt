@@ -9,7 +9,7 @@ ghost use Prim.Native.Nat.{_+_, _≤_, _<_};
 ghost use lib.Dec.{eqb};
 ghost use mathlib.Core.Bool.{not};
 ghost use lib.ListN.{length, getD, set};
-ghost use Rattle.desk_print.specs.Output.{count-of, gathered, Fresh, Put, Counted, Failed, Tried, Flushed, Added};
+ghost use Rattle.desk_print.specs.Output.{count-of, gathered, Sound, Fresh, Put, Counted, Failed, Tried, Flushed, Added};
 ghost use Rattle.desk_print.specs.Text.{path-of};
 ghost use Rattle.util.specs.Splice.{splice};
 
@@ -77,9 +77,17 @@ fn errors(out: &Output) -> i32 {
     }
 }
 
-// Writes the first n bytes to an open file.
-fn write_first(fd: i32, s: &[u8], n: usize) -> bool {
-    io::write_all(fd, util::bytes::sub_slice(s, 0, n))
+// Writes a text, which is all that is gathered, to an open file.
+fn write_text(fd: i32, out: &Output, text: &[u8]) -> bool
+    requires { ⌜ now text ≡ gathered (now out) ⌝ }
+{
+    io::write_all(fd, text)
+}
+
+// Writes what is gathered to an open file.
+fn write_gathered(fd: i32, out: &Output) -> bool {
+    let n = count(out);
+    write_text(fd, out, util::bytes::sub_slice(out, 0, n))
 }
 
 // Remembers that a write has failed, and says so.
@@ -93,18 +101,24 @@ pub fn fail(out: &mut Output)
     );
 }
 
-// Writes out what is gathered.
-pub fn flush(out: &mut Output)
-    ensures { λ _. ⌜ Flushed (now (out .entry)) (now (out .exit)) ⌝ }
+// Writes what is gathered to standard output, unless a write has failed.
+fn write_out(out: &mut Output)
+    ensures { λ _. ⌜ (Sound (now (out .exit)) → now (out .exit) ≡ now (out .entry)) ⌝ }
 {
-    let n = count(out);
-    set_count(out, 0);
     if is_failed(out) {
         return;
     }
-    if !write_first(STDOUT_FILENO, out, n) {
+    if !write_gathered(STDOUT_FILENO, out) {
         fail(out);
     }
+}
+
+// Writes out what is gathered, and forgets it.
+pub fn flush(out: &mut Output)
+    ensures { λ _. ⌜ Flushed (now (out .entry)) (now (out .exit)) ⌝ }
+{
+    write_out(out);
+    set_count(out, 0);
 }
 
 // Puts bytes at a place.
@@ -163,16 +177,20 @@ pub fn begin_line(out: &mut Output, what: &[u8])
     put(out, b": ");
 }
 
-// Writes an error line.
+// Writes what is gathered to the file of error lines, unless a write has failed.
+fn write_line(out: &Output) {
+    if !is_failed(out) {
+        write_gathered(errors(out), out);
+    }
+}
+
+// Ends an error line, and writes it.
 pub fn end_line(out: &mut Output)
     ensures { λ _. ⌜ Flushed (now (out .entry)) (now (out .exit)) ⌝ }
 {
     put(out, b"\n");
-    let n = count(out);
+    write_line(out);
     set_count(out, 0);
-    if !is_failed(out) {
-        write_first(errors(out), out, n);
-    }
 }
 
 // Writes an error line: what it is about, and what is to be said of it.

@@ -5,7 +5,7 @@ mod split;
 use desk_commands::words;
 use desk_print::output;
 use desk_print::output::Output;
-use desk_print::put;
+use desk_print::say;
 ghost use Prim.Native.Nat.{_≤_};
 ghost use lib.ListN.{length};
 
@@ -33,9 +33,9 @@ fn run_words(out: &mut Output, w: &[u8]) {
 // Writes a line, and runs it.
 fn run_line(out: &mut Output, line: &[u8]) {
     let mut w = io::buffer();
-    put(out, b"$ desk ");
-    put(out, line);
-    put(out, b"\n");
+    say(out, b"$ desk ");
+    say(out, line);
+    say(out, b"\n");
     let n = split::split(line, &mut w);
     run_words(out, util::bytes::sub_slice(&w, 0, n));
 }

@@ -10,7 +10,7 @@ use desk_io::pieces;
 use desk_print::number;
 use desk_print::output::Output;
 use desk_print::output::complain;
-use desk_print::put;
+use desk_print::say;
 use desk_print::units;
 use messages::system_exclusive::DeviceID;
 use messages::system_exclusive::UniversalNonRealTimeMsg;
@@ -49,9 +49,9 @@ enum Made {
 fn put_keys(out: &mut Output, n: u64) {
     let set = util::groups::hold(n, KEYS as u64);
     units(out, set, b"key");
-    put(out, b" set, ");
+    say(out, b" set, ");
     number(out, KEYS as u64 - set);
-    put(out, b" in equal temperament\n");
+    say(out, b" in equal temperament\n");
 }
 
 // Writes bytes as a new file, and says what was set.
@@ -59,10 +59,10 @@ fn save_bytes(out: &mut Output, path: &[u8], bytes: &[u8], made: Made) {
     if !output::save(out, path, bytes) {
         return;
     }
-    put(out, b", ");
+    say(out, b", ");
     match made {
         Made::Keys(n) => put_keys(out, n),
-        Made::Notes => put(out, b"12 notes set\n"),
+        Made::Notes => say(out, b"12 notes set\n"),
     }
 }
 

@@ -8,24 +8,9 @@ use Rattle.desk_print.proofs.output.end_line.Tie as tie
 
 returns : tie.Need-returns
 returns c =
-    let k = c .before .before .before .before .before .before .before .before .set-count .ensures in
-    flushed (k .count) (λ s. c .before .before .before .before .before .before .before .before .before .before .before .before .put .ensures .sound (sym (k .flag) ∙ s))
-
-returns-2 : tie.Need-returns-2
-returns-2 c =
-    let k = c .before .before .before .set-count .ensures in
-    flushed (k .count) (λ s. c .before .before .before .before .before .before .before .put .ensures .sound (sym (k .flag) ∙ s))
+    let k = c .set-count .ensures in flushed (k .count) (λ s. c .before .before .before .before .put .ensures .sound (sym (k .flag) ∙ s))
 
 pub end-line-spec : {M : Type 1} → statement M
 end-line-spec =
     tie.close
-    (tie.spec
-    (λ c. search needs)
-    (λ c κs. search needs)
-    (λ c κs. search needs)
-    (λ c κs. search needs)
-    (λ c κs. search needs)
-    (λ c κs. search needs)
-    (λ c κs. search needs)
-    returns
-    returns-2)
+    (tie.spec (λ c. search needs) (λ c κs. search needs) (λ c κs. search needs) (λ c κs. search needs) returns)
