@@ -1,2 +1,4 @@
 pub mod Promises
 pub mod Joined
+pub mod Mend
+pub mod Sorts

@@ -1,12 +1,10 @@
 // A frame with the sum that is due.
-ghost use mathlib.Core.Path.{_≡_};
-ghost use Prim.Native.Nat.{_≤_};
-ghost use lib.ListN.{length};
+ghost use Rattle.desk_files.specs.Mend.{Mended};
 
 // Copies a stretch to the start of a buffer with the sum that is due in place of its own; how many bytes that are, none where there is no room or
 // no place of a sum.
 pub fn with_sum(stretch: &[u8], room: &mut [u8]) -> usize
-    ensures { λ r. ⌜ r ≤ length (now (room .entry)) ⌝ }
+    ensures { λ r. ⌜ Mended (now (stretch .entry)) (now (room .entry)) (now (room .exit)) r ⌝ }
 {
     let n = stretch.len();
     if room.len() < n {

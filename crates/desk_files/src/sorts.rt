@@ -3,6 +3,7 @@ use desk_io::names::complain;
 use desk_print::output::Output;
 use util::groups::at;
 ghost use mathlib.Core.Path.{_≡_};
+ghost use Rattle.desk_files.specs.Sorts.{begins-three, begins, is-text-byte, is-text, mark-length, sort-of-text, sort-of};
 
 // A sort of file.
 pub enum Sort {
@@ -13,24 +14,55 @@ pub enum Sort {
     Text,
 }
 
+// Whether a file begins with three bytes.
+fn begins_three(s: &[u8], a: u8, b: u8, c: u8) -> bool
+    ensures { λ r. ⌜ r ≡ begins-three a b c (now (s .entry)) ⌝ }
+{
+    if at(s, 0) != a {
+        return false;
+    }
+    if at(s, 1) != b {
+        return false;
+    }
+    at(s, 2) == c
+}
+
 // Whether a file begins with four bytes.
-fn begins(s: &[u8], a: u8, b: u8, c: u8, d: u8) -> bool {
-    at(s, 0) == a && at(s, 1) == b && at(s, 2) == c && at(s, 3) == d
+fn begins(s: &[u8], a: u8, b: u8, c: u8, d: u8) -> bool
+    ensures { λ r. ⌜ r ≡ begins a b c d (now (s .entry)) ⌝ }
+{
+    if begins_three(s, a, b, c) {
+        return at(s, 3) == d;
+    }
+    false
 }
 
 // Whether a byte is one of text: printable, or a tab, a line end, a form feed, a carriage return.
-fn is_text_byte(b: u8) -> bool {
-    match b {
-        9 => true,
-        10 => true,
-        12 => true,
-        13 => true,
-        _ => 32 <= b && b < 127,
+fn is_text_byte(b: u8) -> bool
+    ensures { λ r. ⌜ r ≡ is-text-byte b ⌝ }
+{
+    if b == 9 {
+        return true;
     }
+    if b == 10 {
+        return true;
+    }
+    if b == 12 {
+        return true;
+    }
+    if b == 13 {
+        return true;
+    }
+    if b < 32 {
+        return false;
+    }
+    b < 127
 }
 
 // Whether all bytes are bytes of text.
-fn is_text(s: &[u8]) -> bool {
+fn is_text(s: &[u8]) -> bool
+    ensures { λ r. ⌜ r ≡ is-text (now (s .entry)) ⌝ }
+{
     let mut i = 0;
     while i < s.len() {
         if !is_text_byte(s[i]) {
@@ -42,8 +74,10 @@ fn is_text(s: &[u8]) -> bool {
 }
 
 // How many bytes the byte order mark of UTF-8 has, where a file begins with it.
-fn mark(s: &[u8]) -> usize {
-    if begins(s, 0xEF, 0xBB, 0xBF, at(s, 3)) {
+fn mark(s: &[u8]) -> usize
+    ensures { λ r. ⌜ r ≡ mark-length (now (s .entry)) ⌝ }
+{
+    if begins_three(s, 0xEF, 0xBB, 0xBF) {
         3
     } else {
         0
@@ -51,7 +85,9 @@ fn mark(s: &[u8]) -> usize {
 }
 
 // The sort of text.
-fn sort_of_text(s: &[u8]) -> Sort {
+fn sort_of_text(s: &[u8]) -> Sort
+    ensures { λ r. ⌜ r ≡ sort-of-text (now (s .entry)) ⌝ }
+{
     if s.len() == 0 {
         return Sort::Capture;
     }
@@ -66,7 +102,9 @@ fn sort_of_text(s: &[u8]) -> Sort {
 }
 
 // The sort of a file, told by its first piece.
-pub fn sort_of(s: &[u8]) -> Sort {
+pub fn sort_of(s: &[u8]) -> Sort
+    ensures { λ r. ⌜ r ≡ sort-of (now (s .entry)) ⌝ }
+{
     if begins(s, 77, 84, 104, 100) {
         return Sort::MidiFile;
     }

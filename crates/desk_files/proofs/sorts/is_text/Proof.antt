@@ -1,49 +1,53 @@
-use Prim.Native.Nat.{_≤_, _-_}
-use lib.ListN.{length}
+-- `desk_files::sorts::is_text` meets its contract: the bytes from i on are text just where all are.
+-- Assumes nothing.
 use borrow.Author.Needs.{needs}
+use mathlib.Core.Path.{_≡_, refl, sym, _∙_}
+use Prim.Native.Nat.{_-_}
+use borrow.Author.Tests.{not-true, not-false}
+use denote.Ref.{now}
+use lib.ListN.{length, drop}
+use Rattle.desk_files.specs.Sorts.{is-text}
+use Rattle.desk_files.proofs.Laws.Sorts.{text-past, text-stop, text-more}
 use Rattle.desk_files.proofs.sorts.is_text.Statement.{statement}
 use Rattle.desk_files.proofs.sorts.is_text.Tie as tie
-use Rattle.desk_files.proofs.sorts.is_text.Reads as reads
-use Rattle.desk_files.proofs.sorts.is_text.Lts as lts
-use Rattle.desk_files.proofs.sorts.is_text_byte.Reads as is-text-byte-reads
 
 abbrev Inv-loop : tie.InvT-loop
-Inv-loop s i₀ i = i ≤ length s
+Inv-loop s i₀ i = is-text (drop i s) ≡ is-text s
 
 abbrev μ-loop : tie.MeasureT-loop
 μ-loop s i₀ i = length s - i
 
--- src/sorts.rt:35:5
 loop-holds : tie.Need-loop-holds Inv-loop μ-loop
-loop-holds c = search needs
+loop-holds c = refl
 
--- src/sorts.rt:36:26
 shared-slice-read-is-text-byte : tie.Need-shared-slice-read-is-text-byte Inv-loop μ-loop
 shared-slice-read-is-text-byte c = search needs
 
--- src/sorts.rt:36:13
 is-text-byte-requires : tie.Need-is-text-byte-requires Inv-loop μ-loop
 is-text-byte-requires c κs = search needs
 
--- src/sorts.rt:37:13
 returns : tie.Need-returns Inv-loop μ-loop
-returns c = search needs
+returns c =
+    let l = c .before .before .before .before .loop in
+    let s = now (c .before .before .before .before .before .before .args .s) in
+    sym (text-stop s (l .i) (c .before .before .before .loop-test .taken) (sym (c .before .is-text-byte .ensures) ∙ not-true _ (c .if1 .taken))) ∙ l .inv
 
--- src/sorts.rt:39:9
 add-i : tie.Need-add-i Inv-loop μ-loop
 add-i c = search needs
 
--- src/sorts.rt:35:5
 loop-less : tie.Need-loop-less Inv-loop μ-loop
 loop-less c = search needs
 
--- src/sorts.rt:35:5
 loop-again : tie.Need-loop-again Inv-loop μ-loop
-loop-again c = search needs
+loop-again c =
+    let l = c .before .before .before .before .loop in
+    let s = now (c .before .before .before .before .before .before .args .s) in
+    sym (text-more s (l .i) (c .before .before .before .loop-test .taken) (sym (c .before .is-text-byte .ensures) ∙ not-false _ (c .if1 .left))) ∙ l .inv
 
--- src/sorts.rt:33:1
 returns-2 : tie.Need-returns-2 Inv-loop μ-loop
-returns-2 c = search needs
+returns-2 c =
+    let l = c .before .loop in
+    sym (text-past (now (c .before .before .before .args .s)) (l .i) (c .loop-test .left)) ∙ l .inv
 
 pub is-text-spec : {M : Type 1} → statement M
 is-text-spec =
