@@ -1,11 +1,9 @@
+-- `desk_files::extract::join_index` is safe and ends. The invariant: at most all pairs are passed.
+-- Assumes nothing.
 use Prim.Native.Nat.{_≤_, _-_}
 use borrow.Author.Needs.{needs}
 use Rattle.desk_files.proofs.extract.join_index.Statement.{statement}
 use Rattle.desk_files.proofs.extract.join_index.Tie as tie
-use Rattle.desk_files.proofs.extract.join_index.Reads as reads
-use Rattle.desk_files.proofs.extract.join_index.Lts as lts
-use Rattle.desk_files.proofs.extract.join_pair.Reads as join-pair-reads
-use Rattle.desk_files.proofs.list.place.Reads as place-reads
 
 abbrev Inv-loop : tie.InvT-loop
 Inv-loop out₀ s index n kind to joined₀ i₀ out joined i = i ≤ n
@@ -13,51 +11,39 @@ Inv-loop out₀ s index n kind to joined₀ i₀ out joined i = i ≤ n
 abbrev μ-loop : tie.MeasureT-loop
 μ-loop out₀ s index n kind to joined₀ i₀ out joined i = n - i
 
--- src/extract.rt:70:5
 loop-holds : tie.Need-loop-holds Inv-loop μ-loop
 loop-holds c = search needs
 
--- src/extract.rt:72:13
 returns : tie.Need-returns Inv-loop μ-loop
 returns c = search needs
 
--- src/extract.rt:77:32
 mul-place : tie.Need-mul-place Inv-loop μ-loop
 mul-place c = search needs
 
--- src/extract.rt:77:13
 place-requires : tie.Need-place-requires Inv-loop μ-loop
 place-requires c κs = search needs
 
--- src/extract.rt:78:32
 mul-place-2 : tie.Need-mul-place-2 Inv-loop μ-loop
 mul-place-2 c = search needs
 
--- src/extract.rt:78:32
 add-place : tie.Need-add-place Inv-loop μ-loop
 add-place c = search needs
 
--- src/extract.rt:78:13
 place-requires-2 : tie.Need-place-requires-2 Inv-loop μ-loop
 place-requires-2 c κs = search needs
 
--- src/extract.rt:74:9
 join-pair-requires : tie.Need-join-pair-requires Inv-loop μ-loop
 join-pair-requires c κs = search needs
 
--- src/extract.rt:83:9
 add-i : tie.Need-add-i Inv-loop μ-loop
 add-i c = search needs
 
--- src/extract.rt:70:5
 loop-less : tie.Need-loop-less Inv-loop μ-loop
 loop-less c = search needs
 
--- src/extract.rt:70:5
 loop-again : tie.Need-loop-again Inv-loop μ-loop
 loop-again c = search needs
 
--- src/extract.rt:59:1
 returns-2 : tie.Need-returns-2 Inv-loop μ-loop
 returns-2 c = search needs
 

@@ -1,11 +1,9 @@
+-- `desk_files::list::list_index` is safe and ends. The invariant: at most all pairs are passed.
+-- Assumes nothing.
 use Prim.Native.Nat.{_≤_, _-_}
 use borrow.Author.Needs.{needs}
 use Rattle.desk_files.proofs.list.list_index.Statement.{statement}
 use Rattle.desk_files.proofs.list.list_index.Tie as tie
-use Rattle.desk_files.proofs.list.list_index.Reads as reads
-use Rattle.desk_files.proofs.list.list_index.Lts as lts
-use Rattle.desk_files.proofs.list.list_pair.Reads as list-pair-reads
-use Rattle.desk_files.proofs.list.place.Reads as place-reads
 
 abbrev Inv-loop : tie.InvT-loop
 Inv-loop out₀ s index n next base kind tally₀ i₀ out tally i = i ≤ n
@@ -13,51 +11,39 @@ Inv-loop out₀ s index n next base kind tally₀ i₀ out tally i = i ≤ n
 abbrev μ-loop : tie.MeasureT-loop
 μ-loop out₀ s index n next base kind tally₀ i₀ out tally i = n - i
 
--- src/list.rt:120:5
 loop-holds : tie.Need-loop-holds Inv-loop μ-loop
 loop-holds c = search needs
 
--- src/list.rt:122:13
 returns : tie.Need-returns Inv-loop μ-loop
 returns c = search needs
 
--- src/list.rt:127:26
 mul-place : tie.Need-mul-place Inv-loop μ-loop
 mul-place c = search needs
 
--- src/list.rt:127:13
 place-requires : tie.Need-place-requires Inv-loop μ-loop
 place-requires c κs = search needs
 
--- src/list.rt:128:26
 mul-place-2 : tie.Need-mul-place-2 Inv-loop μ-loop
 mul-place-2 c = search needs
 
--- src/list.rt:128:26
 add-place : tie.Need-add-place Inv-loop μ-loop
 add-place c = search needs
 
--- src/list.rt:128:13
 place-requires-2 : tie.Need-place-requires-2 Inv-loop μ-loop
 place-requires-2 c κs = search needs
 
--- src/list.rt:124:9
 list-pair-requires : tie.Need-list-pair-requires Inv-loop μ-loop
 list-pair-requires c κs = search needs
 
--- src/list.rt:134:9
 add-i : tie.Need-add-i Inv-loop μ-loop
 add-i c = search needs
 
--- src/list.rt:120:5
 loop-less : tie.Need-loop-less Inv-loop μ-loop
 loop-less c = search needs
 
--- src/list.rt:120:5
 loop-again : tie.Need-loop-again Inv-loop μ-loop
 loop-again c = search needs
 
--- src/list.rt:108:1
 returns-2 : tie.Need-returns-2 Inv-loop μ-loop
 returns-2 c = search needs
 

@@ -1,10 +1,10 @@
-use Prim.Native.Nat.{_≤_, _-_}
+-- `desk_files::list::unended` is safe and ends. The invariant: the place is within the bytes.
+-- Assumes nothing.
+use Prim.Native.Nat.{_≤_}
 use lib.ListN.{length}
 use borrow.Author.Needs.{needs}
 use Rattle.desk_files.proofs.list.unended.Statement.{statement}
 use Rattle.desk_files.proofs.list.unended.Tie as tie
-use Rattle.desk_files.proofs.list.unended.Reads as reads
-use Rattle.desk_files.proofs.list.unended.Lts as lts
 
 abbrev Inv-loop : tie.InvT-loop
 Inv-loop s i₀ i = i ≤ length s
@@ -12,39 +12,30 @@ Inv-loop s i₀ i = i ≤ length s
 abbrev μ-loop : tie.MeasureT-loop
 μ-loop s i₀ i = i
 
--- src/list.rt:175:5
 loop-holds : tie.Need-loop-holds Inv-loop μ-loop
 loop-holds c = search needs
 
--- src/list.rt:176:9
 sub-i : tie.Need-sub-i Inv-loop μ-loop
 sub-i c = search needs
 
--- src/list.rt:177:12
 shared-slice-read-if1 : tie.Need-shared-slice-read-if1 Inv-loop μ-loop
 shared-slice-read-if1 c = search needs
 
--- src/list.rt:178:13
 returns : tie.Need-returns Inv-loop μ-loop
 returns c = search needs
 
--- src/list.rt:180:12
 shared-slice-read-if2 : tie.Need-shared-slice-read-if2 Inv-loop μ-loop
 shared-slice-read-if2 c = search needs
 
--- src/list.rt:181:13
 returns-2 : tie.Need-returns-2 Inv-loop μ-loop
 returns-2 c = search needs
 
--- src/list.rt:175:5
 loop-less : tie.Need-loop-less Inv-loop μ-loop
 loop-less c = search needs
 
--- src/list.rt:175:5
 loop-again : tie.Need-loop-again Inv-loop μ-loop
 loop-again c = search needs
 
--- src/list.rt:173:1
 returns-3 : tie.Need-returns-3 Inv-loop μ-loop
 returns-3 c = search needs
 

@@ -1,12 +1,10 @@
+-- `desk_io::pieces::pass` is safe and ends. The invariant: the buffer keeps its length.
+-- Assumes nothing.
 use mathlib.Core.Path.{_≡_}
-use Prim.Native.Nat.{_≤_, _-_}
 use lib.ListN.{length}
 use borrow.Author.Needs.{needs}
 use Rattle.desk_io.proofs.pieces.pass.Statement.{statement}
 use Rattle.desk_io.proofs.pieces.pass.Tie as tie
-use Rattle.desk_io.proofs.pieces.pass.Reads as reads
-use Rattle.desk_io.proofs.pieces.pass.Lts as lts
-use Rattle.desk_io.proofs.pieces.read_some.Reads as read-some-reads
 
 abbrev Inv-loop : tie.InvT-loop
 Inv-loop fd room₀ count left₀ room left = length room ≡ length room₀
@@ -14,39 +12,30 @@ Inv-loop fd room₀ count left₀ room left = length room ≡ length room₀
 abbrev μ-loop : tie.MeasureT-loop
 μ-loop fd room₀ count left₀ room left = left
 
--- src/pieces.rt:158:5
 loop-holds : tie.Need-loop-holds Inv-loop μ-loop
 loop-holds c = search needs
 
--- src/pieces.rt:159:13
 read-some-requires : tie.Need-read-some-requires Inv-loop μ-loop
 read-some-requires c κs = search needs
 
--- src/pieces.rt:161:13
 same-length : tie.Need-same-length Inv-loop μ-loop
 same-length c = search needs
 
--- src/pieces.rt:161:13
 returns : tie.Need-returns Inv-loop μ-loop
 returns c = search needs
 
--- src/pieces.rt:163:9
 sub-left : tie.Need-sub-left Inv-loop μ-loop
 sub-left c = search needs
 
--- src/pieces.rt:158:5
 loop-less : tie.Need-loop-less Inv-loop μ-loop
 loop-less c = search needs
 
--- src/pieces.rt:158:5
 loop-again : tie.Need-loop-again Inv-loop μ-loop
 loop-again c = search needs
 
--- src/pieces.rt:156:1
 same-length-2 : tie.Need-same-length-2 Inv-loop μ-loop
 same-length-2 c = search needs
 
--- src/pieces.rt:156:1
 returns-2 : tie.Need-returns-2 Inv-loop μ-loop
 returns-2 c = search needs
 

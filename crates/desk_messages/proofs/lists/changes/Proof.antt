@@ -1,11 +1,10 @@
+-- `desk_messages::lists::changes` is safe and ends. The invariant: the place is within the entries.
+-- Assumes nothing.
 use Prim.Native.Nat.{_≤_, _-_}
 use lib.ListN.{length}
 use borrow.Author.Needs.{needs}
 use Rattle.desk_messages.proofs.lists.changes.Statement.{statement}
 use Rattle.desk_messages.proofs.lists.changes.Tie as tie
-use Rattle.desk_messages.proofs.lists.changes.Reads as reads
-use Rattle.desk_messages.proofs.lists.changes.Lts as lts
-use Rattle.desk_messages.proofs.lists.change_line.Reads as change-line-reads
 
 abbrev Inv-loop : tie.InvT-loop
 Inv-loop out₀ entries i₀ out i = i ≤ length entries
@@ -13,35 +12,27 @@ Inv-loop out₀ entries i₀ out i = i ≤ length entries
 abbrev μ-loop : tie.MeasureT-loop
 μ-loop out₀ entries i₀ out i = length entries - i
 
--- src/lists.rt:88:5
 loop-holds : tie.Need-loop-holds Inv-loop μ-loop
 loop-holds c = search needs
 
--- src/lists.rt:89:26
 mul-change-line : tie.Need-mul-change-line Inv-loop μ-loop
 mul-change-line c = search needs
 
--- src/lists.rt:89:26
 shared-slice-read-change-line : tie.Need-shared-slice-read-change-line Inv-loop μ-loop
 shared-slice-read-change-line c = search needs
 
--- src/lists.rt:89:9
 change-line-requires : tie.Need-change-line-requires Inv-loop μ-loop
 change-line-requires c κs = search needs
 
--- src/lists.rt:90:9
 add-i : tie.Need-add-i Inv-loop μ-loop
 add-i c = search needs
 
--- src/lists.rt:88:5
 loop-less : tie.Need-loop-less Inv-loop μ-loop
 loop-less c = search needs
 
--- src/lists.rt:88:5
 loop-again : tie.Need-loop-again Inv-loop μ-loop
 loop-again c = search needs
 
--- src/lists.rt:86:1
 returns : tie.Need-returns Inv-loop μ-loop
 returns c = search needs
 

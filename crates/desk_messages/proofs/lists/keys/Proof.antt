@@ -1,12 +1,10 @@
+-- `desk_messages::lists::keys` is safe and ends. The invariant: the place is within the entries.
+-- Assumes nothing.
 use Prim.Native.Nat.{_≤_, _-_}
 use lib.ListN.{length}
 use borrow.Author.Needs.{needs}
 use Rattle.desk_messages.proofs.lists.keys.Statement.{statement}
 use Rattle.desk_messages.proofs.lists.keys.Tie as tie
-use Rattle.desk_messages.proofs.lists.keys.Reads as reads
-use Rattle.desk_messages.proofs.lists.keys.Lts as lts
-use Rattle.desk_messages.proofs.lists.key_line.Reads as key-line-reads
-use Rattle.messages.proofs.tuning.MaybeTuning.from_entry.Reads as from-entry-reads
 
 abbrev Inv-loop : tie.InvT-loop
 Inv-loop out₀ entries i₀ out i = i ≤ length entries
@@ -14,47 +12,36 @@ Inv-loop out₀ entries i₀ out i = i ≤ length entries
 abbrev μ-loop : tie.MeasureT-loop
 μ-loop out₀ entries i₀ out i = length entries - i
 
--- src/lists.rt:69:5
 loop-holds : tie.Need-loop-holds Inv-loop μ-loop
 loop-holds c = search needs
 
--- src/lists.rt:71:13
 returns : tie.Need-returns Inv-loop μ-loop
 returns c = search needs
 
--- src/lists.rt:73:23
 cast-key-line : tie.Need-cast-key-line Inv-loop μ-loop
 cast-key-line c = search needs
 
--- src/lists.rt:73:56
 mul-from-entry : tie.Need-mul-from-entry Inv-loop μ-loop
 mul-from-entry c = search needs
 
--- src/lists.rt:73:56
 shared-slice-read-from-entry : tie.Need-shared-slice-read-from-entry Inv-loop μ-loop
 shared-slice-read-from-entry c = search needs
 
--- src/lists.rt:73:32
 from-entry-requires : tie.Need-from-entry-requires Inv-loop μ-loop
 from-entry-requires c κs = search needs
 
--- src/lists.rt:73:9
 key-line-requires : tie.Need-key-line-requires Inv-loop μ-loop
 key-line-requires c κs = search needs
 
--- src/lists.rt:74:9
 add-i : tie.Need-add-i Inv-loop μ-loop
 add-i c = search needs
 
--- src/lists.rt:69:5
 loop-less : tie.Need-loop-less Inv-loop μ-loop
 loop-less c = search needs
 
--- src/lists.rt:69:5
 loop-again : tie.Need-loop-again Inv-loop μ-loop
 loop-again c = search needs
 
--- src/lists.rt:67:1
 returns-2 : tie.Need-returns-2 Inv-loop μ-loop
 returns-2 c = search needs
 

@@ -1,11 +1,10 @@
+-- `desk_messages::lists::maps` is safe and ends. The invariant: the place is within the entries.
+-- Assumes nothing.
 use Prim.Native.Nat.{_≤_, _-_}
 use lib.ListN.{length}
 use borrow.Author.Needs.{needs}
 use Rattle.desk_messages.proofs.lists.maps.Statement.{statement}
 use Rattle.desk_messages.proofs.lists.maps.Tie as tie
-use Rattle.desk_messages.proofs.lists.maps.Reads as reads
-use Rattle.desk_messages.proofs.lists.maps.Lts as lts
-use Rattle.desk_messages.proofs.lists.map_line.Reads as map-line-reads
 
 abbrev Inv-loop : tie.InvT-loop
 Inv-loop out₀ entries i₀ out i = i ≤ length entries
@@ -13,35 +12,27 @@ Inv-loop out₀ entries i₀ out i = i ≤ length entries
 abbrev μ-loop : tie.MeasureT-loop
 μ-loop out₀ entries i₀ out i = length entries - i
 
--- src/lists.rt:122:5
 loop-holds : tie.Need-loop-holds Inv-loop μ-loop
 loop-holds c = search needs
 
--- src/lists.rt:123:23
 mul-map-line : tie.Need-mul-map-line Inv-loop μ-loop
 mul-map-line c = search needs
 
--- src/lists.rt:123:23
 shared-slice-read-map-line : tie.Need-shared-slice-read-map-line Inv-loop μ-loop
 shared-slice-read-map-line c = search needs
 
--- src/lists.rt:123:9
 map-line-requires : tie.Need-map-line-requires Inv-loop μ-loop
 map-line-requires c κs = search needs
 
--- src/lists.rt:124:9
 add-i : tie.Need-add-i Inv-loop μ-loop
 add-i c = search needs
 
--- src/lists.rt:122:5
 loop-less : tie.Need-loop-less Inv-loop μ-loop
 loop-less c = search needs
 
--- src/lists.rt:122:5
 loop-again : tie.Need-loop-again Inv-loop μ-loop
 loop-again c = search needs
 
--- src/lists.rt:120:1
 returns : tie.Need-returns Inv-loop μ-loop
 returns c = search needs
 
