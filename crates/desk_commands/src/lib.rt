@@ -3,7 +3,7 @@ pub mod help;
 pub mod words;
 
 use check::same;
-use desk_files::extract;
+use desk_extract::extract;
 use desk_files::list;
 use desk_files::list::Scope;
 use desk_files::list::Tally;

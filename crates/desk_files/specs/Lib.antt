@@ -1,4 +1,3 @@
 pub mod Promises
-pub mod Joined
 pub mod Mend
 pub mod Sorts

@@ -1,8 +1,6 @@
-// Files of captured streams: frames listed, shown and extracted.
+// Files of captured streams: frames listed and shown.
 pub mod all;
-pub mod extract;
 pub mod frames;
-pub mod joined;
 pub mod list;
 pub mod mend;
 pub mod show;

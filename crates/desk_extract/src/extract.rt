@@ -1,8 +1,8 @@
 // A frame as it stands, or the bytes of a file dump's packets, into a new file.
-use super::frames;
 use super::joined::Joined;
-use super::list;
-use super::show;
+use desk_files::frames;
+use desk_files::list;
+use desk_files::show;
 use desk_io::output;
 use desk_io::pieces;
 use desk_io::pieces::PIECE;

@@ -1,9 +1,9 @@
--- `desk_files::joined::is_next` meets its contract: the tests are those of the definition.
+-- `desk_extract::joined::is_next` meets its contract: the tests are those of the definition.
 -- Assumes nothing.
 use borrow.Author.Needs.{needs}
 use borrow.Author.Tests.{lt-ltb, le-ltb}
-use Rattle.desk_files.proofs.joined.is_next.Statement.{statement}
-use Rattle.desk_files.proofs.joined.is_next.Tie as tie
+use Rattle.desk_extract.proofs.joined.is_next.Statement.{statement}
+use Rattle.desk_extract.proofs.joined.is_next.Tie as tie
 
 returns : tie.Need-returns
 returns c = rw (lt-ltb _ _ (c .before .if1 .taken), ← c .next-number .ensures (c .before .if1 .taken))

@@ -11,7 +11,7 @@ use messages::file_dump::FileDumpMsg;
 use messages::system_exclusive::UniversalNonRealTimeMsg;
 ghost use mathlib.Core.Path.{_≡_};
 ghost use Prim.Native.Nat.{_+_, _%_, _<_};
-ghost use Rattle.desk_files.specs.Joined.{is-next};
+ghost use Rattle.desk_extract.specs.Joined.{is-next};
 
 // How a file dump ended: not yet, by its end, by another dump, by a cancel, by a missing packet, by a write that failed.
 pub enum End {

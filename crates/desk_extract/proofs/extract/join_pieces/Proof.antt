@@ -1,11 +1,11 @@
--- `desk_files::extract::join_pieces` is safe and ends. The invariant: a piece is within the buffer, and the buffers keep their lengths.
+-- `desk_extract::extract::join_pieces` is safe and ends. The invariant: a piece is within the buffer, and the buffers keep their lengths.
 -- Assumes nothing.
 use mathlib.Core.Path.{_≡_}
 use Prim.Native.Nat.{_≤_}
 use lib.ListN.{length}
 use borrow.Author.Needs.{needs}
-use Rattle.desk_files.proofs.extract.join_pieces.Statement.{statement}
-use Rattle.desk_files.proofs.extract.join_pieces.Tie as tie
+use Rattle.desk_extract.proofs.extract.join_pieces.Statement.{statement}
+use Rattle.desk_extract.proofs.extract.join_pieces.Tie as tie
 
 abbrev Inv-loop : tie.InvT-loop
 Inv-loop out₀ fd kind room₀ index₀ to s₀ turns₀ out room index s turns = (s .piece .len ≤ length room₀) × ((length room ≡ length room₀) × (length index ≡ length index₀))

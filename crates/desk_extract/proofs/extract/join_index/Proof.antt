@@ -1,9 +1,9 @@
--- `desk_files::extract::join_index` is safe and ends. The invariant: at most all pairs are passed.
+-- `desk_extract::extract::join_index` is safe and ends. The invariant: at most all pairs are passed.
 -- Assumes nothing.
 use Prim.Native.Nat.{_≤_, _-_}
 use borrow.Author.Needs.{needs}
-use Rattle.desk_files.proofs.extract.join_index.Statement.{statement}
-use Rattle.desk_files.proofs.extract.join_index.Tie as tie
+use Rattle.desk_extract.proofs.extract.join_index.Statement.{statement}
+use Rattle.desk_extract.proofs.extract.join_index.Tie as tie
 
 abbrev Inv-loop : tie.InvT-loop
 Inv-loop out₀ s index n kind to joined₀ i₀ out joined i = i ≤ n
