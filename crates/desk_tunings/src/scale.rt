@@ -7,10 +7,13 @@ use messages::tuning::Scale1Byte;
 use messages::tuning::Scale2Byte;
 use util::signed;
 ghost use mathlib.Core.Path.{_≡_};
+ghost use mathlib.Core.Bool.{true, false};
 ghost use Prim.Native.Nat.{_<_, _≤_};
-ghost use lib.ListN.{length};
+ghost use lib.ListN.{length, drop, getD};
 ghost use Rattle.desk_text.specs.Cents.{cents-of};
-ghost use Rattle.desk_tunings.specs.Scale.{value-of, refused-as, word-answer, word-values, is-whole-value};
+ghost use Rattle.desk_text.specs.Spans.{is-blank};
+ghost use Rattle.desk_text.specs.Lines.{begins-comment};
+ghost use Rattle.desk_tunings.specs.Scale.{value-of, refused-as, word-answer, word-values, good-values, counted-as, words-of, read-values, is-whole-value, are-whole-values};
 
 // Zero among the values: a value stands as many ten trillionths of a cent above or below it.
 pub const ZERO: u64 = 2000000000000000;
@@ -73,15 +76,23 @@ fn put_word(word: &[u8], values: &mut [u64], n: usize) -> Values
 }
 
 // Whether values are good.
-fn is_good(v: Values) -> bool {
+fn is_good(v: Values) -> bool
+    ensures { λ r. ⌜ r ≡ good-values v ⌝ }
+{
     match v {
         Values::Good => true,
-        _ => false,
+        Values::NoValue => false,
+        Values::NoNumber(_) => false,
+        Values::Outside(_) => false,
+        Values::TooFew(_) => false,
+        Values::TooMany => false,
     }
 }
 
 // Whether there are twelve values.
-fn counted(n: usize) -> Values {
+fn counted(n: usize) -> Values
+    ensures { λ r. ⌜ r ≡ counted-as n ⌝ }
+{
     if n == 0 {
         return Values::NoValue;
     }
@@ -94,6 +105,9 @@ fn counted(n: usize) -> Values {
 // The first place from a place on where a word begins that is no comment.
 fn next_word(s: &[u8], from: usize) -> usize
     ensures { λ r. ⌜ from ≤ r ⌝ }
+    ensures { λ r. ⌜ words-of (drop r (now (s .entry))) ≡ words-of (drop from (now (s .entry))) ⌝ }
+    ensures { λ r. ⌜ (r < length (now (s .entry)) → is-blank (getD (now (s .entry)) r 0) ≡ false) ⌝ }
+    ensures { λ r. ⌜ (r < length (now (s .entry)) → begins-comment true (getD (now (s .entry)) r 0) ≡ false) ⌝ }
 {
     let mut at = lines::skip(s, from);
     while at < s.len() {
@@ -106,7 +120,9 @@ fn next_word(s: &[u8], from: usize) -> usize
 }
 
 // Puts the values of all words, up to the first that is wrong.
-pub fn read(s: &[u8], values: &mut [u64]) -> Values {
+pub fn read(s: &[u8], values: &mut [u64]) -> Values
+    ensures { λ r. ⌜ (r, now (values .exit)) ≡ read-values (now (s .entry)) (now (values .entry)) ⌝ }
+{
     let mut n = 0;
     let mut at = next_word(s, lines::start(s));
     while at < s.len() {
@@ -138,7 +154,9 @@ fn is_whole(v: u64) -> bool
 }
 
 // Whether all values are whole numbers of cents from -64 to 63.
-pub fn are_whole(values: &[u64]) -> bool {
+pub fn are_whole(values: &[u64]) -> bool
+    ensures { λ r. ⌜ r ≡ are-whole-values (now (values .entry)) ⌝ }
+{
     let mut i = 0;
     while i < values.len() {
         if !is_whole(values[i]) {

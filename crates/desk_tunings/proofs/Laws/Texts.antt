@@ -13,7 +13,7 @@ use Rattle.util.specs.Pick.{pick}
 use Rattle.desk_text.specs.Spans.{is-line-end, span}
 use Rattle.desk_text.specs.Lines.{end-length, line-of, behind-line, lines-within, lines-of}
 
-either : (t : Bool) → (t ≡ true) ⊎ (t ≡ false)
+pub either : (t : Bool) → (t ≡ true) ⊎ (t ≡ false)
 either true = inl refl
 either false = inr refl
 
