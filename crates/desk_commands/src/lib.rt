@@ -15,6 +15,8 @@ use desk_text::Number;
 use desk_tunings::save;
 use messages::file_reference::Kind;
 use words::word;
+ghost use Prim.Native.Nat.{_≤_};
+ghost use lib.ListN.{length};
 
 // The commands; Unknown is any other word.
 pub enum Command {
@@ -106,14 +108,9 @@ fn offset_of(out: &mut Output, text: &[u8]) -> Number {
 }
 
 // Lists the files of the words from a place on, and says how many there are where they are several.
-fn list_files(
-    out: &mut Output,
-    words: &[u8],
-    from: usize,
-    kind: Kind,
-    scope: Scope,
-    is_named: bool,
-) {
+fn list_files(out: &mut Output, words: &[u8], from: usize, kind: Kind, scope: Scope, is_named: bool)
+    requires { ⌜ from ≤ length (now words) ⌝ }
+{
     let mut t = Tally::none();
     let mut at = from;
     while at < words.len() {

@@ -1,20 +1,23 @@
 // The words of a command: bytes, each word ended by a 0.
 ghost use mathlib.Core.Path.{_≡_};
-ghost use Prim.Native.Nat.{_+_, _≤_, min};
-ghost use lib.ListN.{length};
+ghost use Prim.Native.Nat.{_+_, _<_, _≤_, min};
+ghost use lib.Dec.{eqb};
+ghost use lib.ListN.{length, drop};
+ghost use Rattle.util.specs.Pick.{pick};
+ghost use Rattle.desk_commands.specs.Words.{word-count, first-length, start-at, word-at};
 
 // One more if a byte ends a word.
-fn counted(n: usize, b: u8) -> usize {
-    if b == 0 {
-        if n < usize::MAX {
-            return n + 1;
-        }
-    }
-    n
+fn counted(n: usize, b: u8) -> usize
+    requires { ⌜ n < 18446744073709551615 ⌝ }
+    ensures { λ r. ⌜ r ≡ pick (eqb b 0) (n + 1) n ⌝ }
+{
+    if b == 0 { n + 1 } else { n }
 }
 
 // How many words there are.
-pub fn count(words: &[u8]) -> usize {
+pub fn count(words: &[u8]) -> usize
+    ensures { λ r. ⌜ r ≡ word-count (now (words .entry)) ⌝ }
+{
     let mut n = 0;
     let mut i = 0;
     while i < words.len() {
@@ -26,7 +29,7 @@ pub fn count(words: &[u8]) -> usize {
 
 // Where the word of a number begins, the first of which has the number 0; the end where there is none.
 pub fn start_of(words: &[u8], number: usize) -> usize
-    ensures { λ r. ⌜ r ≤ length (now (words .entry)) ⌝ }
+    ensures { λ r. ⌜ (r ≤ length (now (words .entry))) × (r ≡ start-at (now (words .entry)) number) ⌝ }
 {
     let mut n = 0;
     let mut i = 0;
@@ -43,7 +46,7 @@ pub fn start_of(words: &[u8], number: usize) -> usize
 // Where the word that begins at a place ends.
 pub fn end_of(words: &[u8], start: usize) -> usize
     requires { ⌜ start ≤ length (now words) ⌝ }
-    ensures { λ r. ⌜ (start ≤ r) × (r ≤ length (now (words .entry))) ⌝ }
+    ensures { λ r. ⌜ (start ≤ r) × (r ≤ length (now (words .entry))) × (r ≡ start + first-length (drop start (now (words .entry)))) ⌝ }
 {
     let mut i = start;
     while i < words.len() {
@@ -56,7 +59,9 @@ pub fn end_of(words: &[u8], start: usize) -> usize
 }
 
 // The word of a number; nothing where there is none.
-pub fn word(words: &[u8], number: usize) -> &[u8] {
+pub fn word(words: &[u8], number: usize) -> &[u8]
+    ensures { λ r. ⌜ now r ≡ word-at (now (words .entry)) number ⌝ }
+{
     let start = start_of(words, number);
     let end = end_of(words, start);
     &words[start..end]
