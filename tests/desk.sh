@@ -220,7 +220,7 @@ run list "$(printf '%5000s' | tr ' ' a)"; err_is "desk: word 2 is longer than 4,
 verdict "a path of 5,000 bytes" $?
 run tune new.syx 5 "$(printf '%4096s' | tr ' ' a)" <home.txt; err_is "desk: word 4 is longer than 4,095 bytes" && out_is && [ ! -e new.syx ]
 verdict "a name of 4,096 bytes" $?
-run list $(yes "$(printf '%100s' | tr ' ' a)" | head -12000); err_is "desk: too many words" && out_is
+run list $(yes "$(printf '%100s' | tr ' ' a)" | head -1200); err_is "desk: too many words, more than 65,536 bytes" && out_is
 verdict "too many words" $?
 odd=$'a\e[31m\x7f\t.syx'
 cp cut.syx "$odd"; run list "$odd" "no$odd"

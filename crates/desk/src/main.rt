@@ -6,9 +6,6 @@ use desk_print::output::complain;
 use desk_print::output::complain_number;
 use libc::STDOUT_FILENO;
 
-// The bytes of all words together, each with the 0 behind it.
-const ROOM: usize = 1048576;
-
 // The words of the arguments: so many bytes; or an argument that is longer than any name of a file, or more words than there is room for.
 pub enum Words {
     All(usize),
@@ -63,7 +60,11 @@ fn run(out: &mut Output, words: &[u8], w: Words) {
             i as u64,
             b" is longer than 4,095 bytes",
         ),
-        Words::Full => complain(out, b"desk", b"too many words"),
+        Words::Full => complain(
+            out,
+            b"desk",
+            b"too many words, more than 65,536 bytes",
+        ),
     }
 }
 
@@ -80,7 +81,7 @@ fn main() {
     if is_closed() {
         return output::fail(&mut out);
     }
-    let mut words = [0u8; ROOM];
+    let mut words = io::large_buffer();
     let w = push_arguments(&mut words);
     run(&mut out, &words, w);
     output::flush(&mut out);

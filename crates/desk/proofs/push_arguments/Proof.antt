@@ -1,8 +1,8 @@
--- `desk::push_arguments` is safe and ends. The invariant: the buffer keeps its length. The measure is how many arguments are left.
+-- `desk::push_arguments` is safe and ends. The invariant: the words keep their room.
 -- Assumes nothing.
 use mathlib.Core.Path.{_≡_}
-use lib.ListN.{length}
 use Prim.Native.Nat.{_-_}
+use lib.ListN.{length}
 use borrow.Author.Needs.{needs}
 use Rattle.desk.proofs.push_arguments.Statement.{statement}
 use Rattle.desk.proofs.push_arguments.Tie as tie
@@ -22,6 +22,15 @@ loop-holds c = search needs
 push-argument-requires : tie.Need-push-argument-requires Inv-loop μ-loop
 push-argument-requires c κs = search needs
 
+enum-known-w : tie.Need-enum-known-w Inv-loop μ-loop
+enum-known-w c = search needs
+
+same-length : tie.Need-same-length Inv-loop μ-loop
+same-length c = search needs
+
+returns : tie.Need-returns Inv-loop μ-loop
+returns c = search needs
+
 add-i : tie.Need-add-i Inv-loop μ-loop
 add-i c = search needs
 
@@ -31,11 +40,11 @@ loop-less c = search needs
 loop-again : tie.Need-loop-again Inv-loop μ-loop
 loop-again c = search needs
 
-same-length : tie.Need-same-length Inv-loop μ-loop
-same-length c = search needs
+same-length-2 : tie.Need-same-length-2 Inv-loop μ-loop
+same-length-2 c = search needs
 
-returns : tie.Need-returns Inv-loop μ-loop
-returns c = search needs
+returns-2 : tie.Need-returns-2 Inv-loop μ-loop
+returns-2 c = search needs
 
 pub push-arguments-spec : {M : Type 1} → statement M
 push-arguments-spec =
@@ -46,8 +55,11 @@ push-arguments-spec =
     arg-count-requires
     loop-holds
     push-argument-requires
+    enum-known-w
+    same-length
+    returns
     add-i
     loop-less
     loop-again
-    same-length
-    returns)
+    same-length-2
+    returns-2)

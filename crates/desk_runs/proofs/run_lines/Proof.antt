@@ -1,16 +1,16 @@
 -- `desk_runs::run_lines` is safe and ends. The invariant: the place is within the text.
 -- Assumes nothing.
-use lib.ListN.{length}
 use Prim.Native.Nat.{_≤_, _-_}
+use lib.ListN.{length}
 use borrow.Author.Needs.{needs}
 use Rattle.desk_runs.proofs.run_lines.Statement.{statement}
 use Rattle.desk_runs.proofs.run_lines.Tie as tie
 
 abbrev Inv-loop : tie.InvT-loop
-Inv-loop s at₀ at = at ≤ length s
+Inv-loop out₀ s at₀ out at = at ≤ length s
 
 abbrev μ-loop : tie.MeasureT-loop
-μ-loop s at₀ at = length s - at
+μ-loop out₀ s at₀ out at = length s - at
 
 loop-holds : tie.Need-loop-holds Inv-loop μ-loop
 loop-holds c = search needs
