@@ -60,11 +60,7 @@ fn run(out: &mut Output, words: &[u8], w: Words) {
             i as u64,
             b" is longer than 4,095 bytes",
         ),
-        Words::Full => complain(
-            out,
-            b"desk",
-            b"too many words, more than 65,536 bytes",
-        ),
+        Words::Full => complain(out, b"desk", b"too many words, more than 65,536 bytes"),
     }
 }
 
