@@ -3,6 +3,7 @@ use super::all;
 use super::frames;
 use super::sorts;
 use desk_io::names::complain_number;
+use desk_io::names::is_dash;
 use desk_io::pieces;
 use desk_io::pieces::PIECE;
 use desk_io::pieces::Piece;
@@ -335,10 +336,18 @@ fn list_open(
     t.file(tally)
 }
 
+// Puts the name of an input file.
+fn put_path(out: &mut Output, path: &[u8]) {
+    if is_dash(path) {
+        return say(out, b"standard input");
+    }
+    names::path(out, path);
+}
+
 // Puts the name of a file, where one of several is listed.
 fn put_name(out: &mut Output, path: &[u8], is_named: bool) {
     if is_named {
-        names::path(out, path);
+        put_path(out, path);
         say(out, b":\n");
     }
 }

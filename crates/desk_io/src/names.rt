@@ -3,13 +3,18 @@ use desk_print::number;
 use desk_print::output;
 use desk_print::output::Output;
 use desk_print::say;
+ghost use mathlib.Core.Path.{_≡_};
+ghost use Rattle.desk_io.specs.Names.{is-dash};
 
 // Whether a name is -.
-pub fn is_dash(path: &[u8]) -> bool {
+pub fn is_dash(path: &[u8]) -> bool
+    ensures { λ r. ⌜ r ≡ is-dash (now (path .entry)) ⌝ }
+{
     if path.len() == 1 {
-        return util::groups::at(path, 0) == 45;
+        util::groups::at(path, 0) == 45
+    } else {
+        false
     }
-    false
 }
 
 // Begins an error line about an input file.
