@@ -3,6 +3,7 @@ use super::frames;
 use super::mend;
 use desk_io::names::complain_number;
 use desk_io::pieces;
+use desk_messages::lists;
 use desk_messages::refusals;
 use desk_messages::system;
 use desk_print::fields::Style;
@@ -24,7 +25,7 @@ ghost use lib.ListN.{length};
 fn show_data(out: &mut Output, m: FileDumpMsg, data: &[u8]) {
     match m {
         FileDumpMsg::Header { .. } => {}
-        FileDumpMsg::Packet { .. } => desk_lists::data(out, data),
+        FileDumpMsg::Packet { .. } => lists::data(out, data),
         FileDumpMsg::Request { .. } => {}
     }
 }
@@ -33,9 +34,9 @@ fn show_data(out: &mut Output, m: FileDumpMsg, data: &[u8]) {
 fn show_lists(out: &mut Output, m: UniversalNonRealTimeMsg, data: &[u8], entries: &[u64]) {
     match m {
         UniversalNonRealTimeMsg::FileDump(x) => show_data(out, x, data),
-        UniversalNonRealTimeMsg::KeyBasedTuningDump(_) => desk_lists::keys(out, entries),
-        UniversalNonRealTimeMsg::TuningNoteChange(_) => desk_lists::changes(out, entries),
-        UniversalNonRealTimeMsg::FileReference(_) => desk_lists::maps(out, entries),
+        UniversalNonRealTimeMsg::KeyBasedTuningDump(_) => lists::keys(out, entries),
+        UniversalNonRealTimeMsg::TuningNoteChange(_) => lists::changes(out, entries),
+        UniversalNonRealTimeMsg::FileReference(_) => lists::maps(out, entries),
         _ => {}
     }
 }

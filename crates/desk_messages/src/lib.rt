@@ -1,5 +1,6 @@
 // What a message is, in words: in one line, or every field a line.
 pub mod files;
+pub mod lists;
 pub mod references;
 pub mod refusals;
 pub mod samples;

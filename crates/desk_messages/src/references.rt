@@ -1,4 +1,5 @@
 // File references in words.
+use super::lists;
 use desk_print::fields;
 use desk_print::fields::Style;
 use desk_print::output::Output;
@@ -24,7 +25,7 @@ fn wav_map(out: &mut Output, style: Style, m: WAVMap) {
     fields::detail(out, style, b"base key", m.base as u64);
     fields::detail(out, style, b"lowest key", m.lokey as u64);
     fields::detail(out, style, b"highest key", m.hikey as u64);
-    desk_lists::fine(out, style, m.fine);
+    lists::fine(out, style, m.fine);
     fields::detail(out, style, b"volume", m.volume as u64);
 }
 

@@ -1,4 +1,5 @@
 // Tunings in words.
+use super::lists;
 use desk_print::fields;
 use desk_print::fields::Style;
 use desk_print::number;
@@ -58,7 +59,7 @@ pub fn scale_dump_1(out: &mut Output, style: Style, m: ScaleTuningDump1Byte, nam
         m.tuning_program_num,
         name,
     );
-    desk_lists::scale_1(out, style, tuning);
+    lists::scale_1(out, style, tuning);
 }
 
 // A scale dump of two bytes a note in words.
@@ -72,7 +73,7 @@ pub fn scale_dump_2(out: &mut Output, style: Style, m: ScaleTuningDump2Byte, nam
         m.tuning_program_num,
         name,
     );
-    desk_lists::scale_2(out, style, tuning);
+    lists::scale_2(out, style, tuning);
 }
 
 // A note change in words; it has so many entries.
@@ -123,7 +124,7 @@ pub fn scale_1(out: &mut Output, style: Style, m: ScaleTuning1Byte) {
     let channels = m.channels;
     fields::title(out, style, b"scale for channels");
     channel_map(out, style, channels);
-    desk_lists::scale_1(out, style, tuning);
+    lists::scale_1(out, style, tuning);
 }
 
 // A scale of two bytes a note in words.
@@ -132,5 +133,5 @@ pub fn scale_2(out: &mut Output, style: Style, m: ScaleTuning2Byte) {
     let channels = m.channels;
     fields::title(out, style, b"fine scale for channels");
     channel_map(out, style, channels);
-    desk_lists::scale_2(out, style, tuning);
+    lists::scale_2(out, style, tuning);
 }
