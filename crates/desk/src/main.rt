@@ -5,7 +5,7 @@ use desk_print::output::{Output, complain, complain_number};
 use libc::STDOUT_FILENO;
 
 // The words of the arguments: so many bytes; or an argument that is longer than any name of a file, or more words than there is room for.
-#[derive(Drop)]
+#[derive(Clone, Copy)]
 pub enum Words {
     All(usize),
     Long(usize),

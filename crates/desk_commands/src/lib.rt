@@ -16,7 +16,7 @@ use messages::file_reference::Kind;
 use words::word;
 
 // The commands; Unknown is any other word.
-#[derive(Drop)]
+#[derive(Clone, Copy)]
 pub enum Command {
     List,
     Show,
@@ -29,7 +29,7 @@ pub enum Command {
 }
 
 // A kind of sound file, or a word that is none.
-#[derive(Drop)]
+#[derive(Clone, Copy)]
 pub enum KindWord {
     Is(Kind),
     Nothing,

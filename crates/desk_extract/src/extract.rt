@@ -96,7 +96,7 @@ fn join_piece(
 }
 
 // What is known after a piece: what is joined, and the next piece, if one follows.
-#[derive(Drop)]
+#[derive(Clone, Copy)]
 pub struct Joining {
     pub piece: Piece,
     pub joined: Joined,
@@ -230,7 +230,7 @@ fn is_file(m: UniversalNonRealTimeMsg) -> bool {
 }
 
 // What a stretch is for extracting: the begin of a file dump, another frame, or none for a reason.
-#[derive(Drop)]
+#[derive(Clone, Copy)]
 pub enum Found {
     File,
     Frame,

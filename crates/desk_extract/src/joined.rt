@@ -10,7 +10,7 @@ use messages::file_dump::FileDumpMsg;
 use messages::system_exclusive::UniversalNonRealTimeMsg;
 
 // How a file dump ended: not yet, by its end, by another dump, by a cancel, by a missing packet, by a write that failed.
-#[derive(Drop)]
+#[derive(Clone, Copy)]
 pub enum End {
     Open,
     Ended,
@@ -21,7 +21,7 @@ pub enum End {
 }
 
 // How many bytes are joined, how many a header said, and the number of the last packet, 128 before the first.
-#[derive(Drop)]
+#[derive(Clone, Copy)]
 pub struct Joined {
     pub total: u64,
     pub said: u64,

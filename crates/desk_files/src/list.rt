@@ -11,14 +11,14 @@ use messages::file_reference::Kind;
 use walk::Walked;
 
 // Frames only, or every stretch.
-#[derive(Drop)]
+#[derive(Clone, Copy)]
 pub enum Scope {
     Frames,
     All,
 }
 
 // How many frames there are, how many stretches that are none, and in how many files.
-#[derive(Drop)]
+#[derive(Clone, Copy)]
 pub struct Tally {
     pub frames: u64,
     pub others: u64,
@@ -194,7 +194,7 @@ fn tell_cut(out: &mut Output, s: &[u8], base: u64, path: &[u8]) {
 }
 
 // What is known after a piece: how many stretches there are, and the next piece, if one follows.
-#[derive(Drop)]
+#[derive(Clone, Copy)]
 pub struct Listing {
     pub piece: Piece,
     pub tally: Tally,

@@ -7,7 +7,7 @@ use desk_print::output::Output;
 use util::groups::at;
 
 // A sort of file.
-#[derive(Drop)]
+#[derive(Clone, Copy)]
 pub enum Sort {
     Capture,
     MidiFile,

@@ -13,7 +13,7 @@ pub const PIECE: usize = MOST_STREAM;
 pub const OVERLAP: usize = 4096;
 
 // Bytes of a file: so many of the buffer, the first of which has the offset base in the file; or a read that failed.
-#[derive(Drop)]
+#[derive(Clone, Copy)]
 pub struct Piece {
     pub base: u64,
     pub len: usize,
@@ -45,7 +45,7 @@ fn shift(room: &mut [u8], at: usize, end: usize)
 }
 
 // What reading gave: so many bytes, or a failure.
-#[derive(Drop)]
+#[derive(Clone, Copy)]
 pub struct Got {
     pub is_failed: bool,
     pub count: usize,

@@ -7,7 +7,7 @@ use super::output::Output;
 use super::{four, number, put};
 
 // A signed amount: below zero or not, and how much.
-#[derive(Drop)]
+#[derive(Clone, Copy)]
 pub struct Signed {
     pub is_below: bool,
     pub amount: u64,

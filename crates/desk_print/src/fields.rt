@@ -3,7 +3,7 @@ use super::output::Output;
 use super::{grouped, names, say, units};
 
 // One line with the main fields, or a line for each field.
-#[derive(Drop)]
+#[derive(Clone, Copy)]
 pub enum Style {
     Line,
     Lines,

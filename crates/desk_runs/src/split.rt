@@ -2,7 +2,7 @@
 use desk_commands::words::put;
 
 // How far a line is split: the bytes put, whether a word is begun, whether quotes are open.
-#[derive(Drop)]
+#[derive(Clone, Copy)]
 pub struct State {
     pub n: usize,
     pub is_word: bool,

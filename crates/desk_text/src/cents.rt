@@ -8,7 +8,7 @@ use util::bytes::sub_slice;
 use util::groups::{at, hold};
 
 // A signed number of ten trillionths, or a word that is none.
-#[derive(Drop)]
+#[derive(Clone, Copy)]
 pub enum Decimals {
     Above(u64),
     Below(u64),

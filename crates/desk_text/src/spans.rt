@@ -3,7 +3,7 @@ ghost use Rattle.std.specs.Prelude.{◌≡◌, ◌&&◌, ◌||◌, not, ◌+◌,
 ghost use Rattle.desk_text.specs.Spans.{is_line_end, is_blank, is_point, is_digit, is_three, stops, span};
 
 // What ends a stretch: a line end, a blank, a byte of a word, a point or comma, a byte that is no digit.
-#[derive(Drop)]
+#[derive(Clone, Copy)]
 pub enum Until {
     LineEnd,
     Blank,

@@ -13,7 +13,7 @@ use util::limits::KEYS;
 const UNTOLD: u64 = u64::MAX;
 
 // How reading the lines went: how many keys were set, or the number of the line that is wrong, and why.
-#[derive(Drop)]
+#[derive(Clone, Copy)]
 pub enum Lines {
     Good(u64),
     NoLine,

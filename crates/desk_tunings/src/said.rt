@@ -9,7 +9,7 @@ use util::groups::at;
 use util::limits::NO_TUNING;
 
 // What a line says: a key and its entry, nothing, or what is wrong with it.
-#[derive(Drop)]
+#[derive(Clone, Copy)]
 pub enum Said {
     Entry(usize, u64),
     Nothing,

@@ -29,7 +29,7 @@ fn read_input(out: &mut Output, input: i32, room: &mut [u8]) -> usize
 }
 
 // What a file was made of: so many keys of a tuning, or the notes of a scale.
-#[derive(Drop)]
+#[derive(Clone, Copy)]
 enum Made {
     Keys(u64),
     Notes,

@@ -24,7 +24,7 @@ const CENT: u64 = 10000000000000;
 const LOWEST_WHOLE: u64 = 1360000000000000;
 
 // How reading the values went: the number of the value that is wrong, and why.
-#[derive(Drop)]
+#[derive(Clone, Copy)]
 pub enum Values {
     Good,
     NoValue,

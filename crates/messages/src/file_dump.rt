@@ -7,7 +7,7 @@ ghost use Rattle.messages.specs.MessageOf.{head_file};
 use super::head::Head;
 use super::system_exclusive::DeviceID;
 
-#[derive(Drop)]
+#[derive(Clone, Copy)]
 pub enum FileType {
     MIDI,
     MIEX,
@@ -19,7 +19,7 @@ pub enum FileType {
 }
 
 // The four letters of a type.
-#[derive(Drop)]
+#[derive(Clone, Copy)]
 pub struct Letters {
     pub first: u8,
     pub second: u8,
@@ -54,7 +54,7 @@ pub fn type_letters(t: FileType) -> Letters
     }
 }
 
-#[derive(Drop)]
+#[derive(Clone, Copy)]
 pub enum FileDumpMsg {
     // text: the name
     Header {

@@ -11,13 +11,13 @@ use super::file_dump::{Letters, letters_of};
 use super::head::Head;
 
 // The kind of sound file open: the scope's "bank or WAV".
-#[derive(Drop)]
+#[derive(Clone, Copy)]
 pub enum Kind {
     Bank,
     WAV,
 }
 
-#[derive(Drop)]
+#[derive(Clone, Copy)]
 pub enum FileReferenceType {
     DLS,
     SF2,
@@ -42,7 +42,7 @@ fn bit(flag: bool) -> u64
     if flag { 1 } else { 0 }
 }
 
-#[derive(Drop)]
+#[derive(Clone, Copy)]
 pub struct SoundFileMap {
     pub dst_bank: u16,
     pub dst_prog: u8,
@@ -103,7 +103,7 @@ impl SoundFileMap {
     }
 }
 
-#[derive(Drop)]
+#[derive(Clone, Copy)]
 pub struct WAVMap {
     pub dst_bank: u16,
     pub dst_prog: u8,
@@ -145,7 +145,7 @@ impl WAVMap {
     }
 }
 
-#[derive(Drop)]
+#[derive(Clone, Copy)]
 pub enum SelectMap {
     // entries: the maps
     SoundFile,
@@ -161,7 +161,7 @@ pub enum SelectMap {
     },
 }
 
-#[derive(Drop)]
+#[derive(Clone, Copy)]
 pub enum FileReferenceMsg {
     // text: the URL
     Open {

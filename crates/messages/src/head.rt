@@ -1,6 +1,6 @@
 // The heads of the scope's table, in the order of their bytes. 0B 02 is a head for each kind of sound file.
 
-#[derive(Drop)]
+#[derive(Clone, Copy)]
 pub enum Head {
     SampleDumpHeader,
     SampleDumpPacket,

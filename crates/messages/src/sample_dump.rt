@@ -11,14 +11,14 @@ use rates::SplitAnswer;
 use util::limits::ALL_LOOPS;
 use util::refusal::Refusal;
 
-#[derive(Drop)]
+#[derive(Clone, Copy)]
 pub enum LoopType {
     Forward,
     BiDirectional,
     Off,
 }
 
-#[derive(Drop)]
+#[derive(Clone, Copy)]
 pub enum ExtendedLoopType {
     Forward,
     BiDirectional,
@@ -32,14 +32,14 @@ pub enum ExtendedLoopType {
     OneShot,
 }
 
-#[derive(Drop)]
+#[derive(Clone, Copy)]
 pub enum LoopNumber {
     Loop(u16),
     RequestAll,
     DeleteAll,
 }
 
-#[derive(Drop)]
+#[derive(Clone, Copy)]
 pub enum SampleDumpMsg {
     Header {
         sample_num: u16,
@@ -70,7 +70,7 @@ pub enum SampleDumpMsg {
     },
 }
 
-#[derive(Drop)]
+#[derive(Clone, Copy)]
 pub enum ExtendedSampleDumpMsg {
     // text: the name
     SampleName {
@@ -145,7 +145,7 @@ pub fn loop_value(i: LoopNumber) -> u64
 }
 
 // An extended header; or a refusal.
-#[derive(Drop)]
+#[derive(Clone, Copy)]
 pub enum HeaderAnswer {
     Message(ExtendedSampleDumpMsg),
     Refused(Refusal),

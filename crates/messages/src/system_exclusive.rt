@@ -20,7 +20,7 @@ use util::groups::{at, hold, u14_at};
 use util::limits::{ALL_CALL, LARGEST_U7, LARGEST_U14};
 use util::refusal::Refusal;
 
-#[derive(Drop)]
+#[derive(Clone, Copy)]
 pub enum DeviceID {
     Device(u8),
     AllCall,
@@ -48,13 +48,13 @@ pub fn device_of(b: u8) -> DeviceID
 }
 
 // A maker's number of one byte, or of 00 and two bytes.
-#[derive(Drop)]
+#[derive(Clone, Copy)]
 pub enum ManufacturerID {
     OneByte(u8),
     Extended(u8, u8),
 }
 
-#[derive(Drop)]
+#[derive(Clone, Copy)]
 pub struct SoftwareRevision {
     pub first: u8,
     pub second: u8,
@@ -62,7 +62,7 @@ pub struct SoftwareRevision {
     pub fourth: u8,
 }
 
-#[derive(Drop)]
+#[derive(Clone, Copy)]
 pub struct IdentityReply {
     pub id: ManufacturerID,
     pub family: u16,
@@ -87,13 +87,13 @@ impl IdentityReply {
 }
 
 // What identity reading answers: the reply, or a refusal.
-#[derive(Drop)]
+#[derive(Clone, Copy)]
 pub enum IdentityReading {
     Reply(IdentityReply),
     Refused(Refusal),
 }
 
-#[derive(Drop)]
+#[derive(Clone, Copy)]
 pub enum UniversalNonRealTimeMsg {
     SampleDump(SampleDumpMsg),
     ExtendedSampleDump(ExtendedSampleDumpMsg),

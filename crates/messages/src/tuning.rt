@@ -6,14 +6,14 @@ ghost use Rattle.util.specs.Channels.{how_many, lowest};
 
 use util::limits::NO_TUNING;
 
-#[derive(Drop)]
+#[derive(Clone, Copy)]
 pub struct Tuning {
     pub semitone: u8,
     pub fraction: u16,
 }
 
 // A tuning, or none: the crate's `Option<Tuning>`.
-#[derive(Drop)]
+#[derive(Clone, Copy)]
 pub enum MaybeTuning {
     NoTuning,
     Tuned(Tuning),
@@ -46,7 +46,7 @@ impl MaybeTuning {
 }
 
 // A key and its tuning: an element of the crate's list of note changes.
-#[derive(Drop)]
+#[derive(Clone, Copy)]
 pub struct KeyTuning {
     pub key: u8,
     pub tuning: MaybeTuning,
@@ -72,7 +72,7 @@ impl KeyTuning {
 }
 
 // A tuning bank, or none: the crate's `Option<u8>`.
-#[derive(Drop)]
+#[derive(Clone, Copy)]
 pub enum TuningBank {
     NoBank,
     Bank(u8),
@@ -89,7 +89,7 @@ pub fn bank_number(bank: TuningBank) -> u64
 }
 
 // The adjustments of the twelve semitones, in cents: the crate's `[i8; 12]`.
-#[derive(Drop)]
+#[derive(Clone, Copy)]
 pub struct Scale1Byte {
     pub c: i8,
     pub c_sharp: i8,
@@ -106,7 +106,7 @@ pub struct Scale1Byte {
 }
 
 // The same in 8,192nds of 100 cents: the crate's `[i16; 12]`.
-#[derive(Drop)]
+#[derive(Clone, Copy)]
 pub struct Scale2Byte {
     pub c: i16,
     pub c_sharp: i16,
@@ -123,7 +123,7 @@ pub struct Scale2Byte {
 }
 
 // Sixteen channels: channel c is bit c - 1.
-#[derive(Drop)]
+#[derive(Clone, Copy)]
 pub struct ChannelBitMap {
     pub channels: u16,
 }
@@ -159,14 +159,14 @@ impl ChannelBitMap {
 }
 
 // entries: the tunings of keys 0 to 127; text: the name
-#[derive(Drop)]
+#[derive(Clone, Copy)]
 pub struct KeyBasedTuningDump {
     pub tuning_bank_num: TuningBank,
     pub tuning_program_num: u8,
 }
 
 // text: the name
-#[derive(Drop)]
+#[derive(Clone, Copy)]
 pub struct ScaleTuningDump1Byte {
     pub tuning_bank_num: u8,
     pub tuning_program_num: u8,
@@ -174,7 +174,7 @@ pub struct ScaleTuningDump1Byte {
 }
 
 // text: the name
-#[derive(Drop)]
+#[derive(Clone, Copy)]
 pub struct ScaleTuningDump2Byte {
     pub tuning_bank_num: u8,
     pub tuning_program_num: u8,
@@ -182,19 +182,19 @@ pub struct ScaleTuningDump2Byte {
 }
 
 // entries: the note changes
-#[derive(Drop)]
+#[derive(Clone, Copy)]
 pub struct TuningNoteChange {
     pub tuning_bank_num: TuningBank,
     pub tuning_program_num: u8,
 }
 
-#[derive(Drop)]
+#[derive(Clone, Copy)]
 pub struct ScaleTuning1Byte {
     pub channels: ChannelBitMap,
     pub tuning: Scale1Byte,
 }
 
-#[derive(Drop)]
+#[derive(Clone, Copy)]
 pub struct ScaleTuning2Byte {
     pub channels: ChannelBitMap,
     pub tuning: Scale2Byte,

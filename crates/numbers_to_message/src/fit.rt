@@ -5,7 +5,7 @@ ghost use Rattle.numbers_to_message.specs.Values.{signed};
 ghost use Rattle.numbers_to_message.specs.Fits.{fit, fits, is_some};
 
 // What a number of a message says; Zero to Three are the number itself.
-#[derive(Drop)]
+#[derive(Clone, Copy)]
 pub enum NumberType {
     U8,
     U16,

@@ -19,7 +19,7 @@ pub mod tuning;
 pub mod values;
 
 // The message of some numbers, or numbers that are no message.
-#[derive(Drop)]
+#[derive(Clone, Copy)]
 pub enum Made {
     Message {
         device: DeviceID,

@@ -5,7 +5,7 @@ ghost use Rattle.pasoreum.specs.Kinds.{kind_of};
 use messages::file_reference::Kind;
 
 // The kind that a number names, or neither.
-#[derive(Drop)]
+#[derive(Clone, Copy)]
 pub enum Named {
     Kind(Kind),
     Neither,

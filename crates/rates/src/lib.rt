@@ -8,7 +8,7 @@ ghost use Rattle.rates.specs.Cents.{hold_of, scaled_of, cents_of};
 use util::refusal::Refusal;
 
 // A rate as the extended header has it, the whole part and the rest in 2^28ths; or a refusal.
-#[derive(Drop)]
+#[derive(Clone, Copy)]
 pub enum SplitAnswer {
     Pair { whole: u32, fraction: u32 },
     Refused(Refusal),

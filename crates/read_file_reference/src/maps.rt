@@ -15,7 +15,7 @@ use util::groups::{at, u7_at, u14_at};
 use util::signed::u14_to_i;
 
 // A map, the length that is counted for it, and where its list starts with the number of maps; or nothing.
-#[derive(Drop)]
+#[derive(Clone, Copy)]
 pub enum Picked {
     Is {
         map: SelectMap,
@@ -27,7 +27,7 @@ pub enum Picked {
 }
 
 // A bank offset with its drum flag, or nothing.
-#[derive(Drop)]
+#[derive(Clone, Copy)]
 pub enum OffsetFound {
     Is { bank_offset: u16, src_drum: bool },
     Nothing,

@@ -11,7 +11,7 @@ use messages::file_reference::FileReferenceType;
 use util::groups::at;
 
 // A type of file, or none.
-#[derive(Drop)]
+#[derive(Clone, Copy)]
 pub enum TypeFound {
     Is(FileReferenceType),
     Nothing,

@@ -6,7 +6,7 @@ use messages::file_reference::Kind;
 use messages::head::Head;
 
 // A head of the table, how many bytes it has and whether a checksum ends its frame; or none.
-#[derive(Drop)]
+#[derive(Clone, Copy)]
 pub enum HeadFound {
     Known { h: Head, size: usize, sum: bool },
     Unknown,

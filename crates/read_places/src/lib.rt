@@ -7,7 +7,7 @@ use messages::system_exclusive::{DeviceID, UniversalNonRealTimeMsg};
 
 // What fields say: a message, the part of them that its name, URL or sample bytes are, 0, 0 where it has none, and where the list starts that
 // goes to lent space, with the number of places that it takes; or nothing.
-#[derive(Drop)]
+#[derive(Clone, Copy)]
 pub enum Found {
     Is {
         m: UniversalNonRealTimeMsg,

@@ -6,14 +6,14 @@ use messages::sample_dump::{ExtendedLoopType, LoopNumber, LoopType};
 use util::limits::ALL_LOOPS;
 
 // The loop type that a byte names, or nothing.
-#[derive(Drop)]
+#[derive(Clone, Copy)]
 pub enum LoopTypeNamed {
     Is(LoopType),
     Nothing,
 }
 
 // The extended loop type that a byte names, or nothing.
-#[derive(Drop)]
+#[derive(Clone, Copy)]
 pub enum ExtendedLoopTypeNamed {
     Is(ExtendedLoopType),
     Nothing,

@@ -13,7 +13,7 @@ use util::bytes::{at_most, sub_slice};
 const NAMED: u64 = 5;
 
 // How far a file is replayed: the next case has a number and stands at a place of the buffer, which holds len bytes.
-#[derive(Drop)]
+#[derive(Clone, Copy)]
 pub struct Progress {
     pub len: usize,
     pub at: usize,

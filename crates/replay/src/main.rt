@@ -6,7 +6,7 @@ use files::print;
 use libc::STDOUT_FILENO;
 
 // How many cases passed and failed.
-#[derive(Drop)]
+#[derive(Clone, Copy)]
 struct Tally {
     passed: u64,
     failed: u64,

@@ -5,7 +5,7 @@ ghost use Rattle.replay_vectors.specs.Extents.{PartIn, AskedPartIn, AnswerPartIn
 use super::little;
 
 // Elements from a start on; next is the place after them.
-#[derive(Drop)]
+#[derive(Clone, Copy)]
 pub struct Span {
     pub start: usize,
     pub count: usize,
@@ -13,14 +13,14 @@ pub struct Span {
 }
 
 // A counted part of a case, or a slice that ends before its end.
-#[derive(Drop)]
+#[derive(Clone, Copy)]
 pub enum Part {
     Whole(Span),
     Cut,
 }
 
 // What a case asks: its op, numbers, text and entries.
-#[derive(Drop)]
+#[derive(Clone, Copy)]
 pub struct Asked {
     pub op: u8,
     pub numbers: Span,
@@ -29,14 +29,14 @@ pub struct Asked {
 }
 
 // What a case asks, or a slice that ends before its end.
-#[derive(Drop)]
+#[derive(Clone, Copy)]
 pub enum AskedPart {
     Whole(Asked),
     Cut,
 }
 
 // The answer of a case: a refusal number, a value, and the out parts.
-#[derive(Drop)]
+#[derive(Clone, Copy)]
 pub struct Answer {
     pub refusal: u8,
     pub value: u64,
@@ -46,14 +46,14 @@ pub struct Answer {
 }
 
 // The answer of a case, or a slice that ends before its end.
-#[derive(Drop)]
+#[derive(Clone, Copy)]
 pub enum AnswerPart {
     Whole(Answer),
     Cut,
 }
 
 // The parts of a case; end is the place after it.
-#[derive(Drop)]
+#[derive(Clone, Copy)]
 pub struct Extents {
     pub op: u8,
     pub numbers: Span,
@@ -68,7 +68,7 @@ pub struct Extents {
 }
 
 // A case, or a slice that ends before its end.
-#[derive(Drop)]
+#[derive(Clone, Copy)]
 pub enum Case {
     Whole(Extents),
     Cut,

@@ -9,7 +9,7 @@ use super::little;
 pub const BEFORE: u64 = 4294967295;
 
 // What a replay of a case finds.
-#[derive(Drop)]
+#[derive(Clone, Copy)]
 pub enum Verdict {
     Passed,
     Failed,

@@ -10,7 +10,7 @@ use writer::Written;
 const BEFORE: u8 = 0xA5;
 
 // A message, and whether the maps of a file reference reach the writer as records.
-#[derive(Drop)]
+#[derive(Clone, Copy)]
 pub struct Message {
     pub device: DeviceID,
     pub m: UniversalNonRealTimeMsg,

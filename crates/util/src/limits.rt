@@ -46,7 +46,7 @@ pub const MOST_COUNTED: usize = 127;
 pub const MOST_STREAM: usize = 65535;
 
 // All of them.
-#[derive(Drop)]
+#[derive(Clone, Copy)]
 pub struct Limits {
     pub largest_u7: u8,
     pub largest_u14: u64,

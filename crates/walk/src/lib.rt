@@ -10,7 +10,7 @@ use util::limits::{LARGEST_U7, MOST_STREAM};
 use util::refusal::Refusal;
 
 // What the walk answers: the number of frames, or a refusal and the value besides its number.
-#[derive(Drop)]
+#[derive(Clone, Copy)]
 pub enum Walked {
     Frames(usize),
     Refused(Refusal, usize),

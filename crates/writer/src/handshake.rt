@@ -12,7 +12,7 @@ use util::refusal::Refusal;
 use util::{bytes, groups};
 
 // The head and the number of a handshake message, or another message.
-#[derive(Drop)]
+#[derive(Clone, Copy)]
 pub enum Handshake {
     Of(u8, u8),
     Other,

@@ -22,21 +22,21 @@ use messages::system_exclusive::{DeviceID, UniversalNonRealTimeMsg};
 use util::refusal::Refusal;
 
 // What writing answers: the frame's length, or a refusal.
-#[derive(Drop)]
+#[derive(Clone, Copy)]
 pub enum Written {
     Frame(usize),
     Refused(Refusal),
 }
 
 // Whether a message's contents are admitted.
-#[derive(Drop)]
+#[derive(Clone, Copy)]
 pub enum Contents {
     Admitted,
     Refused(Refusal),
 }
 
 // The length of a message's frame in bytes, or a refusal.
-#[derive(Drop)]
+#[derive(Clone, Copy)]
 pub enum Length {
     Bytes(usize),
     Refused(Refusal),
@@ -142,7 +142,7 @@ fn put_frame(
 }
 
 // What a frame is made of beside F0 and F7: the bytes of its front and of its part, and whether there is a checksum.
-#[derive(Drop)]
+#[derive(Clone, Copy)]
 struct Sizes {
     front: usize,
     part: usize,
