@@ -1,0 +1,15 @@
+-- `util::signed::put_i14` meets its contract: a held value that is held again is itself.
+-- Assumes nothing.
+use borrow.Author.Rules.{rules}
+use mathlib.Core.Path.{ap, ◌∙◌}
+use Prim.Native.Nat.{ℕ}
+use Rattle.util.specs.Groups.{groups}
+use Rattle.util.specs.Splice.{overwritten}
+use mir.Syntax.{w16}
+use Rattle.util.proofs.Laws.Signed.{held_read}
+use Rattle.util.proofs.signed.put_i14.Goals as goal
+
+pub returns : goal.returns
+returns c =
+    c.put_u14.ensures
+    ∙ ap (λ (n : ℕ). overwritten (groups 2 n) c.args.out.now) (held_read w16 2 8192 _ c.args.v c.ranges.v c.i_to_u14-u.ensures)
