@@ -1,0 +1,17 @@
+-- `desk_text::lines::said_end` meets its contract. The invariant: what is left from i on says where the whole ends.
+-- Assumes nothing.
+use borrow.Author.Rules.{rules}
+use mathlib.Core.Path.{◌≡◌, refl, sym, ap, ◌∙◌}
+use mathlib.Core.Bool.{Bool, true}
+use Prim.Native.Nat.{ℕ, ◌+◌, ◌-◌}
+use native.Mathlib.Omega.{arith}
+use lib.ListN.{length, drop}
+use Rattle.desk_text.specs.Lines.{said_length}
+use Rattle.desk_text.proofs.Laws.Spans.{said_past, said_stop, said_more}
+use Rattle.desk_text.proofs.lines.said_end.Given as goal
+
+abbrev pub invariant-loop-i : goal.invariant-loop-i
+invariant-loop-i l = l.i + said_length may-begin (drop l.i l.line) ≡ said_length true l.line
+
+abbrev pub decreases-loop-i : goal.decreases-loop-i
+decreases-loop-i l = length l.line - l.i

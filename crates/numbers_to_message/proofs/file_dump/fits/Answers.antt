@@ -1,0 +1,14 @@
+-- `numbers_to_message::file_dump::fits` meets its contract: each arm is that of its head code.
+-- Assumes nothing.
+use borrow.Author.Tests.{ne_eqb}
+use borrow.Author.Rules.{rules}
+use Rattle.numbers_to_message.proofs.file_dump.fits.Goals as goal
+
+pub returns-in-1793 : goal.returns-in-1793
+returns-in-1793 c = rw c.in-1793.is c.fits_3.ensures
+
+pub returns-in-1794 : goal.returns-in-1794
+returns-in-1794 c = rw c.in-1794.is c.fits_1.ensures
+
+pub returns-in-1795 : goal.returns-in-1795
+returns-in-1795 c = rw c.in-1795.is c.fits_2.ensures

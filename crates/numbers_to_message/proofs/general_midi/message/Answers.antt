@@ -1,0 +1,13 @@
+-- `numbers_to_message::general_midi::message` meets its contract: each arm is that of its head code.
+-- Assumes nothing.
+use borrow.Author.Tests.{ne_eqb}
+use Rattle.numbers_to_message.proofs.general_midi.message.Goals as goal
+
+pub returns-in-2305 : goal.returns-in-2305
+returns-in-2305 c = rw c.in-2305.is
+
+pub returns-in-2306 : goal.returns-in-2306
+returns-in-2306 c = rw c.in-2306.is
+
+pub returns-in-2307 : goal.returns-in-2307
+returns-in-2307 c = rw c.in-2307.is

@@ -1,0 +1,20 @@
+-- `numbers_to_message::handshake::message` meets its contract: each arm is that of its head code.
+-- Assumes nothing.
+use borrow.Author.Tests.{ne_eqb}
+use borrow.Author.Rules.{rules}
+use Rattle.numbers_to_message.proofs.handshake.message.Goals as goal
+
+pub returns-in-31488 : goal.returns-in-31488
+returns-in-31488 c = rw c.in-31488.is
+
+pub returns-in-31744 : goal.returns-in-31744
+returns-in-31744 c = rw c.in-31744.is
+
+pub returns-in-32000 : goal.returns-in-32000
+returns-in-32000 c = rw c.in-32000.is
+
+pub returns-in-32256 : goal.returns-in-32256
+returns-in-32256 c = rw c.in-32256.is c.nak.ensures
+
+pub returns-in-32512 : goal.returns-in-32512
+returns-in-32512 c = rw c.in-32512.is c.ack.ensures

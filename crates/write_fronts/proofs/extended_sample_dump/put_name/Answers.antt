@@ -1,0 +1,16 @@
+-- `write_fronts::extended_sample_dump::put_name` meets its contract: the bytes are those of the fields, each value held to its groups.
+-- Assumes nothing.
+use borrow.Author.Rules.{rules}
+use Rattle.write_fronts.proofs.Laws.{code, field, done, put}
+use Rattle.write_fronts.proofs.extended_sample_dump.put_name.Goals as goal
+
+pub returns : goal.returns
+returns c =
+    put c.args.out.now
+    (code 0x7E
+    (field 1 c.hold-i.ensures
+    (code 0x05
+    (code 0x03
+    (field 2 c.hold-s.ensures
+    (code 0x00 done))))))
+    c.copy.ensures

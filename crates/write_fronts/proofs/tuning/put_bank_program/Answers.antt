@@ -1,0 +1,16 @@
+-- `write_fronts::tuning::put_bank_program` meets its contract: the bytes are those of the fields, each value held to its groups.
+-- Assumes nothing.
+use borrow.Author.Rules.{rules}
+use Rattle.write_fronts.proofs.Laws.{code, field, done, put}
+use Rattle.write_fronts.proofs.tuning.put_bank_program.Goals as goal
+
+pub returns : goal.returns
+returns c =
+    put c.args.out.now
+    (code 0x7E
+    (field 1 c.hold-i.ensures
+    (code 0x08
+    (field 1 c.hold-h.ensures
+    (field 1 c.hold-k.ensures
+    (field 1 c.hold-q.ensures done))))))
+    c.copy.ensures
