@@ -1,4 +1,6 @@
 // The desk: the command of the arguments.
+#![tactic(auto)]
+
 use desk_commands::words;
 use desk_print::output;
 use desk_print::output::{Output, complain, complain_number};

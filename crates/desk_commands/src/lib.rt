@@ -1,4 +1,6 @@
 // The commands of the desk: their words, and what each runs.
+#![tactic(auto)]
+
 pub mod help;
 pub mod words;
 

@@ -1,4 +1,6 @@
 // Files of captured streams: frames listed and shown.
+#![tactic(auto)]
+
 pub mod all;
 pub mod frames;
 pub mod list;

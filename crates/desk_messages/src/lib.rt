@@ -1,4 +1,6 @@
 // What a message is, in words: in one line, or every field a line.
+#![tactic(auto)]
+
 pub mod files;
 pub mod lists;
 pub mod references;

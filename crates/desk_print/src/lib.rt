@@ -1,4 +1,6 @@
 // Text and numbers on standard output; lines that say what went wrong.
+#![tactic(auto)]
+
 pub mod cents;
 pub mod fields;
 pub mod names;

@@ -1,5 +1,7 @@
 // Runs a batch of commands, a line each on standard input, as the desk runs its arguments; error lines go to standard output.
 // A line may end in `< FILE`, from which the command reads its lines. What stands in double quotes is one word.
+#![tactic(auto)]
+
 mod split;
 
 ghost use Rattle.std.specs.Prelude.{◌≤◌, length};

@@ -1,4 +1,6 @@
 // Text: lines and words, and words as numbers, cents and keys.
+#![tactic(auto)]
+
 pub mod cents;
 pub mod fractions;
 pub mod keys;

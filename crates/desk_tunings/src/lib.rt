@@ -1,4 +1,6 @@
 // Tunings made of lines: a key dump or a scale dump as a new file.
+#![tactic(auto)]
+
 pub mod errors;
 pub mod keys;
 pub mod said;

@@ -1,4 +1,6 @@
 // Universal Non-Real-Time System Exclusive messages: enums and structs of numbers, beside which text and entries are lent.
+#![tactic(auto)]
+
 pub mod file_dump;
 pub mod file_reference;
 pub mod general_midi;

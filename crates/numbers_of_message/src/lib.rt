@@ -1,4 +1,6 @@
 // A message as numbers: head code, device, then the fields.
+#![tactic(auto)]
+
 ghost use Rattle.std.specs.Prelude.{◌≡◌, leb, length};
 ghost use Rattle.util.specs.Pick.{pick};
 ghost use Rattle.util.specs.Splice.{overwritten};

@@ -1,4 +1,6 @@
 // The message that numbers say: head code, device, then the fields of the head.
+#![tactic(auto)]
+
 ghost use Rattle.std.specs.Prelude.{◌≡◌};
 ghost use Rattle.numbers_to_message.specs.Table.{rows_of, message_of_numbers};
 ghost use Rattle.numbers_to_message.specs.Fits.{fits_any, first_message};

@@ -1,5 +1,7 @@
 // A message of numbers written as a frame. NAK, ACK, sample dump headers, packets and scale tuning dumps of two bytes are written from their numbers,
 // with no message made of them.
+#![tactic(auto)]
+
 mod fits;
 mod sample_dump;
 mod tuning;

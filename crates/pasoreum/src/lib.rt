@@ -1,4 +1,6 @@
 // What programs outside link: each function takes numbers and slices, and answers the number of a refusal, 0 where nothing is refused.
+#![tactic(auto)]
+
 mod identity;
 mod kinds;
 mod walking;

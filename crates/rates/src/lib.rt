@@ -1,5 +1,7 @@
 // Rates and cents (01, "Beside the walk"): numbers of a frame that are worked out from a float, and a rate from its two numbers.
 // Each contract equates the answer with a definition of specs/, for every input.
+#![tactic(auto)]
+
 ghost use Rattle.std.specs.Prelude.{◌≡◌, ◌+◌, ◌/◌};
 ghost use Rattle.rates.specs.Digits.{digits_of};
 ghost use Rattle.rates.specs.Rate.{split_of, join_of};

@@ -1,4 +1,6 @@
 // Reads the fields of file dumps, and the data of a file packet into lent places.
+#![tactic(auto)]
+
 pub mod fields;
 pub mod packed;
 

@@ -1,4 +1,6 @@
 // Reads the fields of file references: open, select, open and select, close.
+#![tactic(auto)]
+
 ghost use Rattle.std.specs.Prelude.{◌≡◌, ◌+◌, ◌≤◌, length, drop};
 ghost use Rattle.util.specs.Limits.{most_places};
 ghost use Rattle.util.specs.Groups.{Seven};

@@ -1,4 +1,6 @@
 // The fields under a head.
+#![tactic(auto)]
+
 ghost use Rattle.std.specs.Prelude.{◌≡◌};
 ghost use Rattle.util.specs.Groups.{Seven};
 ghost use Rattle.messages.specs.Layouts.{form};

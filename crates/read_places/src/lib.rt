@@ -1,4 +1,6 @@
 // What the fields of a frame say, and the entries of a list by place.
+#![tactic(auto)]
+
 pub mod heads;
 
 ghost use Rattle.std.specs.Prelude.{◌≡◌, ◌≤◌};

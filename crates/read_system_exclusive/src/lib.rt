@@ -1,4 +1,6 @@
 // What the fields of identity, General MIDI and handshake messages say: a reader for each head.
+#![tactic(auto)]
+
 ghost use Rattle.std.specs.Prelude.{◌≡◌, ◌≤◌, length};
 ghost use Rattle.util.specs.Groups.{Seven};
 ghost use Rattle.messages.specs.declared.head.Head.TheVariants as head;

@@ -1,4 +1,6 @@
 // Reads the fields under the heads of tunings, and puts their tunings and note changes into lent places.
+#![tactic(auto)]
+
 mod entries;
 mod scales;
 

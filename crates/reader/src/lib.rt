@@ -1,4 +1,6 @@
 // Reads a frame: what it is, without writing; then its file data and entries into lent space.
+#![tactic(auto)]
+
 pub mod lent;
 pub mod opening;
 mod test;

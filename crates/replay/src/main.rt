@@ -1,4 +1,6 @@
 // Replays files of test vectors, named by its arguments, and prints how many cases passed and failed.
+#![tactic(auto)]
+
 mod files;
 
 use desk_io::pieces::sum;

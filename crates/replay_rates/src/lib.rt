@@ -1,4 +1,6 @@
 // Op 5: cents. Op 6: a rate split. Op 7: a rate joined.
+#![tactic(auto)]
+
 ghost use Rattle.std.specs.Prelude.{length};
 ghost use Rattle.replay_vectors.specs.Extents.{Inside};
 

@@ -1,4 +1,6 @@
 // Op 2: a frame is read with lent space. Op 4: identity bytes are read.
+#![tactic(auto)]
+
 ghost use Rattle.std.specs.Prelude.{◌≤◌, length};
 ghost use Rattle.replay_vectors.specs.Extents.{SpanIn, Inside};
 

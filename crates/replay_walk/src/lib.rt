@@ -1,4 +1,6 @@
 // Op 3: a stream is walked with an index. Op 65: all short streams of a length are.
+#![tactic(auto)]
+
 mod short;
 
 ghost use Rattle.std.specs.Prelude.{length};

@@ -1,4 +1,6 @@
 // Op 1: a message is written, and what was written is read and written again. Op 64: the stretches of a file are. Op 66: as op 1, from map records.
+#![tactic(auto)]
+
 mod again;
 mod stretches;
 mod tries;

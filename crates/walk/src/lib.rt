@@ -1,4 +1,6 @@
 // Lists the frames of a stream in an index.
+#![tactic(auto)]
+
 ghost use Rattle.std.specs.Prelude.{◌≡◌, ◌+◌, ◌*◌, ◌-◌, ◌/◌, ◌%◌, ◌<◌, ◌≤◌, length, take, drop, get_or};
 ghost use Rattle.util.specs.Limits.{most_stream};
 ghost use Rattle.messages.specs.Walk.{frames, is_frame};

@@ -1,4 +1,6 @@
 // The front of each message, from 7E up to its first list, and how long it is.
+#![tactic(auto)]
+
 ghost use Rattle.std.specs.Prelude.{◌≡◌, ◌≤◌, length};
 ghost use Rattle.util.specs.Splice.{overwritten};
 ghost use Rattle.write_fronts.specs.Fronts.{front_of};

@@ -1,4 +1,6 @@
 // What follows the front of each message.
+#![tactic(auto)]
+
 pub mod entries;
 pub mod maps;
 pub mod packing;

@@ -1,4 +1,6 @@
 // Bank maps that reach the writer as a lent list of map records.
+#![tactic(auto)]
+
 ghost use Rattle.std.specs.Prelude.{◌≡◌, map, ◌≤◌, min, length, take, get_or};
 ghost use Rattle.util.specs.Limits.{most_counted};
 ghost use Rattle.messages.specs.Entries.{map_of};

@@ -1,4 +1,6 @@
 // Writes a message's frame at a place of a longer output.
+#![tactic(auto)]
+
 pub mod handshake;
 pub mod refusals;
 

@@ -1,0 +1,10 @@
+-- `read_file_dump::fields::same_two` meets its contract.
+-- Assumes nothing.
+use borrow.Author.Tests.{eq-eqb, ne_eqb}
+use Rattle.read_file_dump.proofs.fields.same_two.Goals as goal
+
+pub returns-then-x-a : goal.returns-then-x-a
+returns-then-x-a c = rw (eq-eqb _ _ c.if-x-a.true)
+
+pub returns-else-x-a : goal.returns-else-x-a
+returns-else-x-a c = rw (ne_eqb _ _ c.if-x-a.false)

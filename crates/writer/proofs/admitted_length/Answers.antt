@@ -1,0 +1,9 @@
+-- `writer::admitted_length` meets its contract: the sizes add up to the frame.
+-- Assumes nothing.
+use borrow.Author.Rules.{rules}
+use Rattle.writer.proofs.Laws.Sums.{total_is}
+use Rattle.writer.proofs.admitted_length.Goals as goal
+
+pub returns : goal.returns
+returns c =
+    total_is c.sizes_of-s.result c.args.device c.args.m c.args.text.now c.args.entries.now _ c.sizes_of-s.ensures c.total_of.ensures
