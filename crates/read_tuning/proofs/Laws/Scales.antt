@@ -20,10 +20,10 @@ use Rattle.read_tuning.specs.Scales.{s7_at, s14_at, scale_1_at, scale_2_at}
 -- ---- a signed number that fits, read back from its bits
 
 pub from_bits_8 : {z v : ℤ} → mag z < 128 → z ≡ v → to_z w8 (of_z w8 z) ≡ v
-from_bits_8 h e = to_z-of_z (record { sfits = h }) ∙ e
+from_bits_8 h e = to_z-of_z {w = w8} (record { sfits = h }) ∙ e
 
 pub from_bits_16 : {z v : ℤ} → mag z < 32768 → z ≡ v → to_z w16 (of_z w16 z) ≡ v
-from_bits_16 h e = to_z-of_z (record { sfits = h }) ∙ e
+from_bits_16 h e = to_z-of_z {w = w16} (record { sfits = h }) ∙ e
 
 -- ---- by place
 

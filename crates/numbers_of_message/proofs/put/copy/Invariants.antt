@@ -1,0 +1,15 @@
+-- `numbers_of_message::put::copy` meets its contract. The invariant: the stores that are left, made on what is there, give what all stores give.
+-- Assumes nothing.
+use borrow.Author.Rules.{rules}
+use mathlib.Core.Path.{◌≡◌, refl, ◌∙◌}
+use Prim.Native.Nat.{◌≤◌, ◌-◌}
+use lib.ListN.{length, drop, length-set}
+use lib.Seq.{sets}
+use Rattle.util.proofs.Laws.Splice.{store_turn, store_done}
+use Rattle.numbers_of_message.proofs.put.copy.Given as goal
+
+abbrev pub invariant-loop-i : goal.invariant-loop-i
+invariant-loop-i l = (l.i ≤ length l.s) × (length l.out ≡ length l.initial.out) × (sets l.out l.i (drop l.i l.s) ≡ sets l.initial.out 0 l.s)
+
+abbrev pub decreases-loop-i : goal.decreases-loop-i
+decreases-loop-i l = length l.s - l.i

@@ -1,0 +1,19 @@
+-- `numbers_of_message::sample_dump::put_message` meets its contract, message by message.
+-- Assumes nothing.
+use borrow.Author.Rules.{rules}
+use Rattle.numbers_of_message.proofs.sample_dump.put_message.Goals as goal
+
+pub returns-in-Header : goal.returns-in-Header
+returns-in-Header c = rw (c.in-Header.is, ← c.loop_byte-t.ensures) c.put_header.ensures
+
+pub returns-in-Packet : goal.returns-in-Packet
+returns-in-Packet c = rw c.in-Packet.is c.put_1.ensures
+
+pub returns-in-Request : goal.returns-in-Request
+returns-in-Request c = rw c.in-Request.is c.put_1-in-Request.ensures
+
+pub returns-in-LoopPointTransmission : goal.returns-in-LoopPointTransmission
+returns-in-LoopPointTransmission c = rw (c.in-LoopPointTransmission.is, ← c.loop_byte-t-in-LoopPointTransmission.ensures, ← c.loop_index-i.ensures) c.put_5.ensures
+
+pub returns-in-LoopPointsRequest : goal.returns-in-LoopPointsRequest
+returns-in-LoopPointsRequest c = rw (c.in-LoopPointsRequest.is, ← c.loop_index-i-in-LoopPointsRequest.ensures) c.put_2.ensures

@@ -1,0 +1,7 @@
+-- `numbers_of_message::tuning::put_dump_2` meets its contract: the numbers of the scale come after the bank and the program.
+-- Assumes nothing.
+use borrow.Author.Rules.{rules}
+use Rattle.numbers_of_message.proofs.tuning.put_dump_2.Goals as goal
+
+pub returns : goal.returns
+returns c = rw (← c.scale_2-v.ensures) c.put_both.ensures

@@ -1,0 +1,22 @@
+-- `read_tuning::bank_key_dump` meets its contract.
+-- Assumes nothing.
+use mathlib.Core.Path.{refl, sym, ap}
+use native.Mathlib.Omega.{arith}
+use Rattle.messages.specs.declared.head.Head.TheVariants as head
+use Rattle.messages.specs.Messages.{plain_answer}
+use Rattle.read_places.proofs.Laws.Answers.{reads_none}
+use Rattle.read_tuning.proofs.Laws.Heads.{bank_keys_size, bank_keys_read}
+use borrow.Author.Rules.{rules}
+use Rattle.read_tuning.proofs.bank_key_dump.Goals as goal
+
+pub returns-then-f-ne402 : goal.returns-then-f-ne402
+returns-then-f-ne402 c = reads_none head.BankKeyBasedTuningDump _ (bank_keys_size c.args.f.now c.requires c.if-f-ne402.true)
+
+pub returns : goal.returns
+returns c =
+    let n = c.if-f-ne402.false in
+    record {
+      says = λ d. rw (c.u7_at-2.ensures, c.u7_at.ensures) (ap (plain_answer d head.BankKeyBasedTuningDump) (sym (bank_keys_read c.args.f.now c.requires n)));
+      part = (omega arith, omega arith, omega arith, refl);
+      start = (refl, refl);
+    }

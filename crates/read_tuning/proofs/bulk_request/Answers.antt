@@ -1,0 +1,21 @@
+-- `read_tuning::bulk_request` meets its contract.
+-- Assumes nothing.
+use mathlib.Core.Path.{refl, sym, ap}
+use native.Mathlib.Omega.{arith}
+use Rattle.messages.specs.declared.head.Head.TheVariants as head
+use Rattle.messages.specs.Messages.{plain_answer}
+use Rattle.read_places.proofs.Laws.Answers.{reads_none}
+use Rattle.read_tuning.proofs.Laws.Heads.{bulk_size, bulk_reads}
+use borrow.Author.Rules.{rules}
+use Rattle.read_tuning.proofs.bulk_request.Goals as goal
+
+pub returns-then-f-ne1 : goal.returns-then-f-ne1
+returns-then-f-ne1 c = reads_none head.TuningBulkDumpRequest _ (bulk_size c.args.f.now c.requires c.if-f-ne1.true)
+
+pub returns : goal.returns
+returns c =
+    record {
+      says = λ d. rw c.u7_at.ensures (ap (plain_answer d head.TuningBulkDumpRequest) (sym (bulk_reads c.args.f.now c.requires c.if-f-ne1.false)));
+      part = (omega arith, omega arith, omega arith, refl);
+      start = (refl, refl);
+    }

@@ -1,0 +1,18 @@
+-- `read_tuning::channels_at` meets its contract.
+-- Assumes nothing.
+use Prim.Native.Nat.{◌<◌}
+use native.Mathlib.Omega.{arith}
+use Rattle.read_places.proofs.Laws.Numbers.{value_get, seven_get}
+use borrow.Author.Rules.{rules}
+use Rattle.read_tuning.proofs.channels_at.Goals as goal
+
+pub channels_of-requires : goal.channels_of-requires
+channels_of-requires c =
+    let f = c.args.f.now in
+    let x : c.u7_at-first.result < 128 = rw (c.u7_at-first.ensures, value_get f 0) (seven_get f 0 c.requires) in
+    let y : c.u7_at-second.result < 128 = rw (c.u7_at-second.ensures, value_get f 1) (seven_get f 1 c.requires) in
+    let z : c.u7_at-third.result < 128 = rw (c.u7_at-third.ensures, value_get f 2) (seven_get f 2 c.requires) in
+    (omega arith, omega arith, omega arith)
+
+pub returns : goal.returns
+returns c = rw (c.channels_of.ensures, c.u7_at-third.ensures, c.u7_at-second.ensures, c.u7_at-first.ensures)

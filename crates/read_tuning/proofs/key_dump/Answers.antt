@@ -1,0 +1,22 @@
+-- `read_tuning::key_dump` meets its contract.
+-- Assumes nothing.
+use mathlib.Core.Path.{refl, sym, ap}
+use native.Mathlib.Omega.{arith}
+use Rattle.messages.specs.declared.head.Head.TheVariants as head
+use Rattle.messages.specs.Messages.{plain_answer}
+use Rattle.read_places.proofs.Laws.Answers.{reads_none}
+use Rattle.read_tuning.proofs.Laws.Heads.{keys_size, keys_read}
+use borrow.Author.Rules.{rules}
+use Rattle.read_tuning.proofs.key_dump.Goals as goal
+
+pub returns-then-f-ne401 : goal.returns-then-f-ne401
+returns-then-f-ne401 c = reads_none head.KeyBasedTuningDump _ (keys_size c.args.f.now c.requires c.if-f-ne401.true)
+
+pub returns : goal.returns
+returns c =
+    let n = c.if-f-ne401.false in
+    record {
+      says = λ d. rw c.u7_at.ensures (ap (plain_answer d head.KeyBasedTuningDump) (sym (keys_read c.args.f.now c.requires n)));
+      part = (omega arith, omega arith, omega arith, refl);
+      start = (refl, refl);
+    }

@@ -1,0 +1,22 @@
+-- `read_tuning::scale_dump_2` meets its contract.
+-- Assumes nothing.
+use mathlib.Core.Path.{refl, sym, ap}
+use native.Mathlib.Omega.{arith}
+use Rattle.messages.specs.declared.head.Head.TheVariants as head
+use Rattle.messages.specs.Messages.{plain_answer}
+use Rattle.read_places.proofs.Laws.Answers.{reads_none}
+use Rattle.read_tuning.proofs.Laws.Heads.{scale_dump_2_size, scale_dump_2_reads}
+use borrow.Author.Rules.{rules}
+use Rattle.read_tuning.proofs.scale_dump_2.Goals as goal
+
+pub returns-then-f-ne42 : goal.returns-then-f-ne42
+returns-then-f-ne42 c = reads_none head.ScaleTuningDump2Byte _ (scale_dump_2_size c.args.f.now c.requires c.if-f-ne42.true)
+
+pub returns : goal.returns
+returns c =
+    let n = c.if-f-ne42.false in
+    record {
+      says = λ d. rw (c.scale_2_at.ensures, c.u7_at-2.ensures, c.u7_at.ensures) (ap (plain_answer d head.ScaleTuningDump2Byte) (sym (scale_dump_2_reads c.args.f.now c.requires n)));
+      part = (omega arith, omega arith, omega arith, refl);
+      start = (refl, refl);
+    }
