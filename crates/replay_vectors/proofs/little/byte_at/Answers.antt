@@ -4,8 +4,5 @@ use native.Mathlib.Omega.{arith}
 use borrow.Author.Rules.{rules}
 use Rattle.replay_vectors.proofs.little.byte_at.Goals as goal
 
-pub overflow_cast-result : goal.overflow_cast-result
-overflow_cast-result c = omega (arith, c.shared_slice_known-1.given c.args.at)
-
 pub returns : goal.returns
 returns c = (search rules, omega (arith, c.shared_slice_known-1.given c.args.at))

@@ -1,0 +1,52 @@
+-- `numbers_write::sample_dump::write_header` meets its contract: without room SPACE, with room the frame at the place.
+-- Assumes nothing.
+use mathlib.Core.List.{List}
+use mathlib.Core.Path.{◌≡◌, sym, ap}
+use Prim.Native.Nat.{ℕ}
+use lib.ListN.{length}
+use borrow.Author.Rules.{rules}
+use Rattle.util.proofs.Laws.Splice.{part_put}
+use Rattle.messages.specs.Fields.{device_byte}
+use Rattle.messages.specs.Messages.{given, write_of}
+use Rattle.write_fronts.proofs.Laws.{put}
+use Rattle.writer.proofs.Laws.Answers.{no_room, in_room, room_past, room_short, room_there}
+use Rattle.numbers_write.specs.Messages.{header_message}
+use Rattle.numbers_write.proofs.Samples.{header_frame, header_length, header_written}
+use Rattle.numbers_write.proofs.sample_dump.write_header.Goals as goal
+use Rattle.numbers_write.proofs.sample_dump.write_header.Goals.{Start}
+
+-- the frame, for a device byte
+abbrev F : Start → ℕ → List ℕ
+F c v = header_frame v c.args.sample c.args.format c.args.period c.args.len c.args.start c.args.end c.args.kind
+
+-- the frame of the message
+abbrev G : Start → List ℕ
+G c = F c (device_byte c.args.device)
+
+-- how long the frame is
+k : (c : Start) → length (G c) ≡ 21
+k c = header_length (device_byte c.args.device) c.args.sample c.args.format c.args.period c.args.len c.args.start c.args.end c.args.kind
+
+-- the frame is what is written
+w : (c : Start)
+    → write_of (header_message c.args.device c.args.sample c.args.format c.args.period c.args.len c.args.start c.args.end c.args.kind) ≡ given (G c)
+w c = header_written c.args.device c.args.sample c.args.format c.args.period c.args.len c.args.start c.args.end c.args.kind
+
+pub returns-then-out-place : goal.returns-then-out-place
+returns-then-out-place c =
+    rw (w (goal.at.returns-then-out-place c).Start) (no_room (G (goal.at.returns-then-out-place c).Start) c.args.out.now c.args.place (room_past (length c.args.out.now) c.args.place _ c.if-out-place.true))
+
+pub returns-then-out-place-lt21 : goal.returns-then-out-place-lt21
+returns-then-out-place-lt21 c =
+    rw (w (goal.at.returns-then-out-place-lt21 c).Start)
+    (no_room (G (goal.at.returns-then-out-place-lt21 c).Start) c.args.out.now c.args.place
+    (room_short (length c.args.out.now) c.args.place _ c.if-out-place.false (rw (k (goal.at.returns-then-out-place-lt21 c).Start) c.if-out-place-lt21.true)))
+
+pub returns : goal.returns
+returns c =
+    rw (w (goal.at.returns c).Start)
+    (in_room (G (goal.at.returns c).Start) c.args.out.now _ c.args.place 21
+    (room_there (length c.args.out.now) c.args.place (length (G (goal.at.returns c).Start)) c.if-out-place.false (rw (k (goal.at.returns c).Start) c.if-out-place-lt21.false))
+    (sym (k (goal.at.returns c).Start))
+    (part_put c.args.out.now c.put_header.new.out (G (goal.at.returns c).Start) c.args.place
+    (put _ (ap (F (goal.at.returns c).Start) c.device_byte-d.ensures) c.put_header.ensures)))
