@@ -15,12 +15,12 @@ pub enum Target {
 }
 
 // Makes the file of a name.
-fn create_file(out: &Output, path: &[u8]) -> std::io::Result<File> {
+fn create_file(rt: HostRuntime, path: &[u8]) -> std::io::Result<File> {
     match from_utf8(path) {
         Ok(name) => OpenOptions::new()
             .write(true)
             .create_new(true)
-            .open(&runtime(out), name),
+            .open(&rt, name),
         Err(_) => Err(Error::from(ErrorKind::InvalidInput)),
     }
 }
@@ -30,7 +30,7 @@ pub fn create(out: &mut Output, path: &[u8]) -> Option<Target> {
     if is_dash(path) {
         return Some(Target::Stdout);
     }
-    match create_file(out, path) {
+    match create_file(runtime(out), path) {
         Ok(file) => Some(Target::File(file)),
         Err(e) => {
             if e.kind() == ErrorKind::AlreadyExists {
@@ -55,9 +55,9 @@ pub fn write(out: &mut Output, to: &mut Target, bytes: &[u8]) -> bool {
 }
 
 // Removes the file of a name.
-fn remove(out: &Output, path: &[u8]) {
+fn remove(rt: HostRuntime, path: &[u8]) {
     if let Ok(name) = from_utf8(path) {
-        let _ = fs::remove_file(&runtime(out), name);
+        let _ = fs::remove_file(&rt, name);
     }
 }
 
@@ -73,7 +73,7 @@ pub fn finish(out: &mut Output, to: Target, path: &[u8], is_whole: bool) -> bool
             if is_whole && file.sync_data().is_ok() {
                 return true;
             }
-            remove(out, path);
+            remove(runtime(out), path);
             false
         }
     }

@@ -156,10 +156,10 @@ pub fn unreadable(out: &mut Output, path: &[u8], why: ErrorKind) {
     }
 }
 
-// Opens the file of a name.
-pub fn open_file(out: &Output, path: &[u8]) -> std::io::Result<File> {
+// Opens the file of a name for reading.
+pub fn open_file(rt: HostRuntime, path: &[u8]) -> std::io::Result<File> {
     match from_utf8(path) {
-        Ok(name) => File::open(&runtime(out), name),
+        Ok(name) => File::open(&rt, name),
         Err(_) => Err(Error::from(ErrorKind::InvalidInput)),
     }
 }
@@ -169,7 +169,7 @@ pub fn open(out: &mut Output, path: &[u8]) -> Option<Source> {
     if is_dash(path) {
         return Some(Source::Stdin(runtime(out).stdin()));
     }
-    match open_file(out, path) {
+    match open_file(runtime(out), path) {
         Ok(file) => Some(Source::File(file)),
         Err(e) => {
             unreadable(out, path, e.kind());
