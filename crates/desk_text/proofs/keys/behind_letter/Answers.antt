@@ -10,11 +10,11 @@ use Rattle.desk_text.proofs.keys.behind_letter.Goals as goal
 pub returns-then-shift_of-eq1 : goal.returns-then-shift_of-eq1
 unfolding octave_part
 returns-then-shift_of-eq1 c =
-    rw (← c.at.ensures, ← c.TODO-Shift-of.ensures, eq-eqb _ _ c.if-shift_of-eq1.true)
+    rw (← c.at.ensures, ← c.shift_of.ensures, eq-eqb _ _ c.if-shift_of-eq1.true)
     (c.sub_slice.ensures ∙ rest_of c.args.s.now 1)
 
 pub returns : goal.returns
 unfolding octave_part
 returns c =
-    rw (← c.at.ensures, ← c.TODO-Shift-of.ensures, ne_eqb _ _ c.if-shift_of-eq1.false)
+    rw (← c.at.ensures, ← c.shift_of.ensures, ne_eqb _ _ c.if-shift_of-eq1.false)
     (c.sub_slice-2.ensures ∙ rest_of c.args.s.now 2)

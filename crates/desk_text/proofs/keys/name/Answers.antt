@@ -14,7 +14,7 @@ pub returns : goal.returns
 unfolding name_of
 returns c =
     let l = c.semitone_of in
-    let n = c.TODO-Shift-of in
+    let n = c.shift_of in
     let o = c.octave_of in
     c.named.ensures
     ∙ ap (λ (x : Number). named_of x n.result o.result) (l.ensures ∙ ap semitone c.at.ensures)
