@@ -10,6 +10,7 @@ use check::same;
 use desk_extract::extract;
 use desk_files::list::{Scope, Tally};
 use desk_files::{list, show};
+use desk_io::pieces::Source;
 use desk_print::output;
 use desk_print::output::{Output, complain};
 use desk_text::Number;
@@ -230,7 +231,7 @@ fn run_extract(out: &mut Output, words: &[u8], n: usize) {
 }
 
 // Makes a tuning of the lines of an open file.
-fn run_tune(out: &mut Output, words: &[u8], n: usize, input: i32) {
+fn run_tune(out: &mut Output, words: &[u8], n: usize, input: &mut Source) {
     if n != 4 {
         return complain(out, b"tune", b"wants OUT PROGRAM NAME; see desk --help");
     }
@@ -238,7 +239,7 @@ fn run_tune(out: &mut Output, words: &[u8], n: usize, input: i32) {
 }
 
 // Makes a scale of the values of an open file.
-fn run_scale(out: &mut Output, words: &[u8], n: usize, input: i32) {
+fn run_scale(out: &mut Output, words: &[u8], n: usize, input: &mut Source) {
     if n != 5 {
         return complain(
             out,
@@ -257,7 +258,7 @@ fn run_scale(out: &mut Output, words: &[u8], n: usize, input: i32) {
 }
 
 // Runs the command of n words.
-fn run_command(out: &mut Output, words: &[u8], n: usize, input: i32) {
+fn run_command(out: &mut Output, words: &[u8], n: usize, input: &mut Source) {
     let first = word(words, 0);
     match command_of(first) {
         Command::List => run_list(out, words, n),
@@ -272,7 +273,7 @@ fn run_command(out: &mut Output, words: &[u8], n: usize, input: i32) {
 }
 
 // Runs the command of words, each ended by a 0; lines are read from an open file.
-pub fn run(out: &mut Output, words: &[u8], input: i32) {
+pub fn run(out: &mut Output, words: &[u8], input: &mut Source) {
     let n = words::count(words);
     if n == 0 {
         return help::no_command(out);

@@ -3,7 +3,8 @@ ghost use Rattle.std.specs.Prelude.{◌≤◌, length};
 
 use super::joined::Joined;
 use desk_files::{frames, list, show};
-use desk_io::pieces::{PIECE, Piece};
+use desk_io::output::Target;
+use desk_io::pieces::{PIECE, Piece, Source};
 use desk_io::{output, pieces};
 use desk_print::output::Output;
 use desk_print::say;
@@ -16,7 +17,7 @@ use util::refusal::Refusal;
 use walk::Walked;
 
 // Reads a frame, and joins it to what is there.
-fn join_frame(out: &mut Output, frame: &[u8], kind: Kind, to: i32, j: Joined) -> Joined {
+fn join_frame(out: &mut Output, frame: &[u8], kind: Kind, to: &mut Target, j: Joined) -> Joined {
     let mut data = [0u8; MOST_DATA];
     let mut entries = [0u64; KEYS];
     match reader::read(frame, kind, &mut data, &mut entries) {
@@ -38,7 +39,7 @@ fn join_pair(
     offset: usize,
     len: usize,
     kind: Kind,
-    to: i32,
+    to: &mut Target,
     j: Joined,
 ) -> Joined {
     if j.is_done() {
@@ -57,7 +58,7 @@ fn join_index(
     index: &[u32],
     n: usize,
     kind: Kind,
-    to: i32,
+    to: &mut Target,
     j: Joined,
 ) -> Joined {
     let mut joined = j;
@@ -86,7 +87,7 @@ fn join_piece(
     s: &[u8],
     kind: Kind,
     index: &mut [u32],
-    to: i32,
+    to: &mut Target,
     j: Joined,
 ) -> Joined {
     match walk::walk(s, kind, index) {
@@ -106,11 +107,11 @@ pub struct Joining {
 // Joins the frames of a piece, and reads the next one.
 fn step(
     out: &mut Output,
-    fd: i32,
+    source: &mut Source,
     kind: Kind,
     room: &mut [u8],
     index: &mut [u32],
-    to: i32,
+    to: &mut Target,
     p: Piece,
     j: Joined,
 ) -> Joining
@@ -133,7 +134,7 @@ fn step(
             is_done: true,
         };
     }
-    let piece = pieces::next(fd, room, p, pieces::next_start(len));
+    let piece = pieces::next(source, room, p, pieces::next_start(len));
     Joining {
         piece,
         joined,
@@ -144,11 +145,11 @@ fn step(
 // Joins the packets of an open file from its first piece on; the turns are counted down from a number that no run uses up.
 fn join_pieces(
     out: &mut Output,
-    fd: i32,
+    source: &mut Source,
     kind: Kind,
     room: &mut [u8],
     index: &mut [u32],
-    to: i32,
+    to: &mut Target,
     first: Piece,
 ) -> Joined
     requires { first.len ≤ length room.old }
@@ -156,19 +157,19 @@ fn join_pieces(
     let mut s = Joining {
         piece: first,
         joined: Joined::none(),
-        is_done: first.is_failed,
+        is_done: first.failure.is_some(),
     };
     let mut turns = u64::MAX;
     while turns > 0 {
         if s.is_done {
             break;
         }
-        if s.piece.is_failed {
+        if s.piece.failure.is_some() {
             break;
         }
         let piece = s.piece;
         let joined = s.joined;
-        s = step(out, fd, kind, room, index, to, piece, joined);
+        s = step(out, source, kind, room, index, to, piece, joined);
         turns -= 1;
     }
     s.joined
@@ -184,7 +185,7 @@ fn tell_written(out: &mut Output, path: &[u8], count: u64) {
 // Joins the packets of an open file from its first piece on into a new file.
 fn join_into(
     out: &mut Output,
-    fd: i32,
+    source: &mut Source,
     path: &[u8],
     kind: Kind,
     room: &mut [u8],
@@ -193,12 +194,11 @@ fn join_into(
 )
     requires { first.len ≤ length room.old }
 {
-    let made = output::create(out, to);
-    if made < 0 {
+    let Some(mut made) = output::create(out, to) else {
         return;
-    }
+    };
     let mut index = [0u32; 21844];
-    let j = join_pieces(out, fd, kind, room, &mut index, made, first);
+    let j = join_pieces(out, source, kind, room, &mut index, &mut made, first);
     let is_whole = j.is_whole();
     if !is_whole {
         j.explain(out, path, to);
@@ -285,14 +285,14 @@ fn extract_frame(
 // Extracts what begins at an offset of an open file.
 fn extract_open(
     out: &mut Output,
-    fd: i32,
+    source: &mut Source,
     path: &[u8],
     kind: Kind,
     offset: u64,
     room: &mut [u8],
     to: &[u8],
 ) {
-    let n = show::read_open(out, fd, path, offset, room);
+    let n = show::read_open(out, source, path, offset, room);
     if n == 0 {
         return;
     }
@@ -301,19 +301,18 @@ fn extract_open(
         let first = Piece {
             base: 0,
             len: n,
-            is_failed: false,
+            failure: None,
         };
-        join_into(out, fd, path, kind, room, first, to);
+        join_into(out, source, path, kind, room, first, to);
     }
 }
 
 // Extracts what begins at an offset of a file.
 pub fn extract(out: &mut Output, path: &[u8], kind: Kind, offset: u64, to: &[u8]) {
-    let fd = pieces::open(out, path);
-    if fd < 0 {
+    let Some(mut source) = pieces::open(out, path) else {
         return;
-    }
+    };
     let mut room = io::large_buffer();
-    extract_open(out, fd, path, kind, offset, &mut room[0..PIECE], to);
-    pieces::close(fd);
+    extract_open(out, &mut source, path, kind, offset, &mut room[0..PIECE], to);
+    pieces::close(source);
 }

@@ -2,6 +2,7 @@
 ghost use Rattle.std.specs.Prelude.{◌≡◌, ◌+◌, ◌%◌, ◌<◌};
 ghost use Rattle.desk_extract.specs.Joined.{is_next};
 
+use desk_io::output::Target;
 use desk_io::pieces::sum;
 use desk_io::{names, output};
 use desk_print::output::{Output, end_line};
@@ -101,7 +102,7 @@ impl Joined {
     }
 
     // Writes a packet's bytes, where it is the next one; a packet that is sent again is passed over.
-    fn packet(self, out: &mut Output, to: i32, number: u64, data: &[u8]) -> Self {
+    fn packet(self, out: &mut Output, to: &mut Target, number: u64, data: &[u8]) -> Self {
         let last = self.last;
         if last == number {
             return self;
@@ -116,7 +117,7 @@ impl Joined {
     }
 
     // A message of a file dump.
-    fn file(self, out: &mut Output, to: i32, m: FileDumpMsg, data: &[u8]) -> Self {
+    fn file(self, out: &mut Output, to: &mut Target, m: FileDumpMsg, data: &[u8]) -> Self {
         match m {
             FileDumpMsg::Header {
                 sender_device: _,
@@ -137,7 +138,7 @@ impl Joined {
     pub fn message(
         self,
         out: &mut Output,
-        to: i32,
+        to: &mut Target,
         m: UniversalNonRealTimeMsg,
         data: &[u8],
     ) -> Self {

@@ -4,7 +4,7 @@ ghost use Rattle.std.specs.Prelude.{◌≤◌, length};
 use super::{all, frames, sorts};
 use desk_io::names::{complain_number, is_dash};
 use desk_io::pieces;
-use desk_io::pieces::{PIECE, Piece, sum};
+use desk_io::pieces::{PIECE, Piece, Source, sum};
 use desk_print::output::Output;
 use desk_print::{names, number, output, say, units};
 use messages::file_reference::Kind;
@@ -204,7 +204,7 @@ pub struct Listing {
 // Lists a piece, and reads the next one.
 fn step(
     out: &mut Output,
-    fd: i32,
+    source: &mut Source,
     path: &[u8],
     kind: Kind,
     scope: Scope,
@@ -226,7 +226,7 @@ fn step(
             is_done: true,
         };
     }
-    let piece = pieces::next(fd, room, p, pieces::next_start(len));
+    let piece = pieces::next(source, room, p, pieces::next_start(len));
     Listing {
         piece,
         tally,
@@ -244,7 +244,7 @@ fn tell_progress(out: &mut Output, turns: u64, base: u64) {
 // Lists an open file from its first piece on. Nothing says that a file ends, so the turns are counted down from a number that no run uses up.
 fn list_pieces(
     out: &mut Output,
-    fd: i32,
+    source: &mut Source,
     path: &[u8],
     kind: Kind,
     scope: Scope,
@@ -258,20 +258,20 @@ fn list_pieces(
     let mut s = Listing {
         piece: first,
         tally: Tally::none(),
-        is_done: first.is_failed,
+        is_done: first.failure.is_some(),
     };
     let mut turns = u64::MAX;
     while turns > 0 {
         if s.is_done {
             break;
         }
-        if s.piece.is_failed {
+        if s.piece.failure.is_some() {
             break;
         }
         let piece = s.piece;
         let tally = s.tally;
         tell_progress(out, turns, piece.base);
-        s = step(out, fd, path, kind, scope, room, index, piece, tally);
+        s = step(out, source, path, kind, scope, room, index, piece, tally);
         turns -= 1;
     }
     s
@@ -306,7 +306,7 @@ pub fn put_sum(out: &mut Output, t: Tally, scope: Scope) {
 // Lists an open file; the tally so far, with its own.
 fn list_open(
     out: &mut Output,
-    fd: i32,
+    source: &mut Source,
     path: &[u8],
     kind: Kind,
     scope: Scope,
@@ -314,13 +314,13 @@ fn list_open(
     t: Tally,
 ) -> Tally {
     let mut index = [0u32; 21844];
-    let first = pieces::first(fd, room, 0);
+    let first = pieces::first(source, room, 0);
     let sort = sorts::sort_of(util::bytes::sub_slice(room, 0, first.len));
-    let s = list_pieces(out, fd, path, kind, scope, room, &mut index, first);
+    let s = list_pieces(out, source, path, kind, scope, room, &mut index, first);
     let piece = s.piece;
     let tally = s.tally;
-    if piece.is_failed {
-        pieces::unreadable(out, path);
+    if let Some(why) = piece.failure {
+        pieces::unreadable(out, path, why);
         return t;
     }
     if tally.frames == 0 {
@@ -355,13 +355,12 @@ pub fn list(
     is_named: bool,
     t: Tally,
 ) -> Tally {
-    let fd = pieces::open(out, path);
-    if fd < 0 {
+    let Some(mut source) = pieces::open(out, path) else {
         return t;
-    }
+    };
     put_name(out, path, is_named);
     let mut room = io::large_buffer();
-    let tally = list_open(out, fd, path, kind, scope, &mut room[0..PIECE], t);
-    pieces::close(fd);
+    let tally = list_open(out, &mut source, path, kind, scope, &mut room[0..PIECE], t);
+    pieces::close(source);
     tally
 }

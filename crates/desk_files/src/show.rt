@@ -4,6 +4,7 @@ ghost use Rattle.std.specs.Prelude.{◌≤◌, length};
 use super::{frames, mend};
 use desk_io::names::complain_number;
 use desk_io::pieces;
+use desk_io::pieces::Source;
 use desk_messages::{lists, refusals, system};
 use desk_print::fields::Style;
 use desk_print::output::Output;
@@ -171,16 +172,16 @@ pub fn no_message(out: &mut Output, path: &[u8], offset: u64) {
 }
 
 // Reads the bytes of an open file from an offset on; none, and a line that says why, where that fails.
-pub fn read_open(out: &mut Output, fd: i32, path: &[u8], offset: u64, room: &mut [u8]) -> usize
+pub fn read_open(out: &mut Output, source: &mut Source, path: &[u8], offset: u64, room: &mut [u8]) -> usize
     ensures { result ≤ length room.old }
 {
-    if !pieces::seek(fd, room, offset) {
+    if !pieces::seek(source, room, offset) {
         no_message(out, path, offset);
         return 0;
     }
-    let got = pieces::read_all(fd, room);
-    if got.is_failed {
-        pieces::unreadable(out, path);
+    let got = pieces::read_all(source, room);
+    if let Some(why) = got.failure {
+        pieces::unreadable(out, path, why);
         return 0;
     }
     if got.count == 0 {
@@ -190,9 +191,9 @@ pub fn read_open(out: &mut Output, fd: i32, path: &[u8], offset: u64, room: &mut
 }
 
 // Shows the message at an offset of an open file.
-fn show_open(out: &mut Output, fd: i32, path: &[u8], kind: Kind, offset: u64) {
+fn show_open(out: &mut Output, source: &mut Source, path: &[u8], kind: Kind, offset: u64) {
     let mut room = io::buffer();
-    let n = read_open(out, fd, path, offset, &mut room);
+    let n = read_open(out, source, path, offset, &mut room);
     if n == 0 {
         return;
     }
@@ -205,10 +206,9 @@ fn show_open(out: &mut Output, fd: i32, path: &[u8], kind: Kind, offset: u64) {
 
 // Shows the message at an offset of a file.
 pub fn show(out: &mut Output, path: &[u8], kind: Kind, offset: u64) {
-    let fd = pieces::open(out, path);
-    if fd < 0 {
+    let Some(mut source) = pieces::open(out, path) else {
         return;
-    }
-    show_open(out, fd, path, kind, offset);
-    pieces::close(fd);
+    };
+    show_open(out, &mut source, path, kind, offset);
+    pieces::close(source);
 }

@@ -1,47 +1,82 @@
 // Output files: made where there is none, whole or not left. The name - is standard output.
 use super::names::is_dash;
-use desk_print::output::{Output, complain};
+use desk_print::output::{Output, complain, runtime};
 use desk_print::{names, number, output, say};
-use libc::STDOUT_FILENO;
+use std::fs;
+use std::fs::{File, OpenOptions};
+use std::io::{Error, ErrorKind, Write};
+use std::str::from_utf8;
 
-// Makes a file for writing; a negative number, and a line that says why, where that fails.
-pub fn create(out: &mut Output, path: &[u8]) -> i32 {
-    if is_dash(path) {
-        return STDOUT_FILENO;
+// What is written: standard output, or a file that was made.
+#[derive(Drop)]
+pub enum Target {
+    Stdout,
+    File(File),
+}
+
+// Makes the file of a name.
+fn create_file(rt: HostRuntime, path: &[u8]) -> std::io::Result<File> {
+    match from_utf8(path) {
+        Ok(name) => OpenOptions::new()
+            .write(true)
+            .create_new(true)
+            .open(&rt, name),
+        Err(_) => Err(Error::from(ErrorKind::InvalidInput)),
     }
-    let fd = os::create(path);
-    if fd < 0 {
-        if os::errno() == libc::EEXIST {
-            complain(out, path, b"is there already, and is left as it is");
-        } else {
-            complain(out, path, b"cannot be made");
+}
+
+// Makes a file for writing; nothing, and a line that says why, where that fails.
+pub fn create(out: &mut Output, path: &[u8]) -> Option<Target> {
+    if is_dash(path) {
+        return Some(Target::Stdout);
+    }
+    match create_file(runtime(out), path) {
+        Ok(file) => Some(Target::File(file)),
+        Err(e) => {
+            if e.kind() == ErrorKind::AlreadyExists {
+                complain(out, path, b"is there already, and is left as it is");
+            } else {
+                complain(out, path, b"cannot be made");
+            }
+            None
         }
     }
-    fd
 }
 
 // Writes bytes to a file that was made; whether they are written.
-pub fn write(out: &mut Output, fd: i32, bytes: &[u8]) -> bool {
-    if fd == STDOUT_FILENO {
-        say(out, bytes);
-        return !output::is_failed(out);
+pub fn write(out: &mut Output, to: &mut Target, bytes: &[u8]) -> bool {
+    match to {
+        Target::Stdout => {
+            say(out, bytes);
+            !output::is_failed(out)
+        }
+        Target::File(file) => file.write_all(bytes).is_ok(),
     }
-    io::write_all(fd, bytes)
 }
 
-// Closes a file, and removes it where it is not whole; whether it is there and whole.
-pub fn finish(out: &mut Output, fd: i32, path: &[u8], is_whole: bool) -> bool {
-    if fd == STDOUT_FILENO {
-        output::flush(out);
-        return is_whole && !output::is_failed(out);
+// Removes the file of a name.
+fn remove(rt: HostRuntime, path: &[u8]) {
+    if let Ok(name) = from_utf8(path) {
+        let _ = fs::remove_file(&rt, name);
     }
-    if libc::close(fd) == 0 {
-        if is_whole {
-            return true;
+}
+
+// Closes a file, and removes it where it is not whole; whether it is there and whole. Closing tells of no error, so that what was written is
+// brought to the disk first.
+pub fn finish(out: &mut Output, to: Target, path: &[u8], is_whole: bool) -> bool {
+    match to {
+        Target::Stdout => {
+            output::flush(out);
+            is_whole && !output::is_failed(out)
+        }
+        Target::File(file) => {
+            if is_whole && file.sync_data().is_ok() {
+                return true;
+            }
+            remove(runtime(out), path);
+            false
         }
     }
-    os::unlink(path);
-    false
 }
 
 // Says that a file could not be written; of standard output that is told already.
@@ -77,12 +112,11 @@ pub fn written(out: &mut Output, path: &[u8], count: u64) -> bool {
 
 // Writes bytes as a new file, and says so without a line end; whether it is said.
 pub fn save(out: &mut Output, path: &[u8], bytes: &[u8]) -> bool {
-    let fd = create(out, path);
-    if fd < 0 {
+    let Some(mut to) = create(out, path) else {
         return false;
-    }
-    let is_whole = write(out, fd, bytes);
-    if finish(out, fd, path, is_whole) {
+    };
+    let is_whole = write(out, &mut to, bytes);
+    if finish(out, to, path, is_whole) {
         return written(out, path, bytes.len() as u64);
     }
     unwritten(out, path);

@@ -1,9 +1,13 @@
 // A file read in pieces that overlap.
 ghost use Rattle.std.specs.Prelude.{◌≡◌, ℕ, ◌+◌, ◌-◌, ◌≤◌, ◌<◌, eqb, length, get_or};
+ghost use Rattle.std.specs.Io.{ReadsAtMost};
 ghost use Rattle.desk_io.specs.Pieces.{NextPiece};
 
 use super::names::{complain, is_dash};
-use desk_print::output::Output;
+use desk_print::output::{Output, runtime};
+use std::fs::File;
+use std::io::{Error, ErrorKind, IsTerminal, Read, Seek, SeekFrom, Stdin, Write};
+use std::str::from_utf8;
 use util::limits::MOST_STREAM;
 
 // The bytes of a whole piece: as many as the walk takes.
@@ -17,7 +21,15 @@ pub const OVERLAP: usize = 4096;
 pub struct Piece {
     pub base: u64,
     pub len: usize,
-    pub is_failed: bool,
+    pub failure: Option<ErrorKind>,
+}
+
+// What is read: standard input, an open file, or nothing, where each read fails.
+#[derive(Drop)]
+pub enum Source {
+    Nothing,
+    Stdin(Stdin),
+    File(File),
 }
 
 // The sum of two numbers, up to the largest number.
@@ -47,18 +59,34 @@ fn shift(room: &mut [u8], at: usize, end: usize)
 // What reading gave: so many bytes, or a failure.
 #[derive(Clone, Copy)]
 pub struct Got {
-    pub is_failed: bool,
+    pub failure: Option<ErrorKind>,
     pub count: usize,
 }
 
+// Reads bytes of a source to the start of a buffer.
+fn read_source(source: &mut Source, room: &mut [u8]) -> std::io::Result<usize>
+    ensures { ReadsAtMost result room.new }
+{
+    match source {
+        Source::Nothing => Err(Error::from(ErrorKind::Uncategorized)),
+        Source::Stdin(stdin) => stdin.read(room),
+        Source::File(file) => file.read(room),
+    }
+}
+
 // Reads bytes of the file to the start of a buffer.
-fn read_once(fd: i32, room: &mut [u8]) -> Got
+fn read_once(source: &mut Source, room: &mut [u8]) -> Got
     ensures { result.count ≤ length room.old }
 {
-    let got = libc::read(fd, room);
-    Got {
-        is_failed: got < 0,
-        count: io::count(got, room),
+    match read_source(source, room) {
+        Ok(count) => Got {
+            failure: None,
+            count,
+        },
+        Err(e) => Got {
+            failure: Some(e.kind()),
+            count: 0,
+        },
     }
 }
 
@@ -70,13 +98,13 @@ fn is_end(count: usize) -> bool
 }
 
 // Reads the file up to its end or the buffer's.
-pub fn read_all(fd: i32, room: &mut [u8]) -> Got
+pub fn read_all(source: &mut Source, room: &mut [u8]) -> Got
     ensures { result.count ≤ length room.old }
 {
     let mut n = 0;
     while n < room.len() {
-        let got = read_once(fd, &mut room[n..]);
-        if got.is_failed {
+        let got = read_once(source, &mut room[n..]);
+        if got.failure.is_some() {
             return got;
         }
         if is_end(got.count) {
@@ -85,80 +113,79 @@ pub fn read_all(fd: i32, room: &mut [u8]) -> Got
         n += got.count;
     }
     Got {
-        is_failed: false,
+        failure: None,
         count: n,
     }
 }
 
 // The first piece of a file whose next byte has an offset.
-pub fn first(fd: i32, room: &mut [u8], base: u64) -> Piece
+pub fn first(source: &mut Source, room: &mut [u8], base: u64) -> Piece
     ensures { result.len ≤ length room.old }
 {
-    let got = read_all(fd, room);
+    let got = read_all(source, room);
     Piece {
         base,
         len: got.count,
-        is_failed: got.is_failed,
+        failure: got.failure,
     }
 }
 
 // The next piece: the bytes from a place on move to the start, and more are read behind them.
-pub fn next(fd: i32, room: &mut [u8], p: Piece, at: usize) -> Piece
+pub fn next(source: &mut Source, room: &mut [u8], p: Piece, at: usize) -> Piece
     requires { (at ≤ p.len) × (p.len ≤ length room.old) }
     ensures { result.len ≤ length room.old }
 {
     shift(room, at, p.len);
     let rest = p.len - at;
-    let got = read_all(fd, &mut room[rest..]);
+    let got = read_all(source, &mut room[rest..]);
     Piece {
         base: sum(p.base, at as u64),
         len: rest + got.count,
-        is_failed: got.is_failed,
+        failure: got.failure,
     }
 }
 
 // Says why a file cannot be opened or read.
-pub fn unreadable(out: &mut Output, path: &[u8]) {
-    let error = os::errno();
-    if error == libc::ENOENT {
-        return complain(out, path, b"there is no such file");
+pub fn unreadable(out: &mut Output, path: &[u8], why: ErrorKind) {
+    match why {
+        ErrorKind::NotFound => complain(out, path, b"there is no such file"),
+        ErrorKind::IsADirectory => complain(out, path, b"is a directory, not a file"),
+        ErrorKind::PermissionDenied => complain(out, path, b"may not be read"),
+        ErrorKind::InvalidFilename => complain(out, path, b"has a name that is too long"),
+        _ => complain(out, path, b"cannot be read"),
     }
-    if error == libc::EISDIR {
-        return complain(out, path, b"is a directory, not a file");
-    }
-    if error == libc::EACCES {
-        return complain(out, path, b"may not be read");
-    }
-    if error == libc::ENAMETOOLONG {
-        return complain(out, path, b"has a name that is too long");
-    }
-    complain(out, path, b"cannot be read");
 }
 
-// Opens a file for reading; a negative number, and a line that says why, where that fails.
-pub fn open(out: &mut Output, path: &[u8]) -> i32 {
+// Opens the file of a name for reading.
+pub fn open_file(rt: HostRuntime, path: &[u8]) -> std::io::Result<File> {
+    match from_utf8(path) {
+        Ok(name) => File::open(&rt, name),
+        Err(_) => Err(Error::from(ErrorKind::InvalidInput)),
+    }
+}
+
+// Opens a file for reading; nothing, and a line that says why, where that fails.
+pub fn open(out: &mut Output, path: &[u8]) -> Option<Source> {
     if is_dash(path) {
-        return libc::STDIN_FILENO;
+        return Some(Source::Stdin(runtime(out).stdin()));
     }
-    let fd = os::open_read(path);
-    if fd < 0 {
-        unreadable(out, path);
+    match open_file(runtime(out), path) {
+        Ok(file) => Some(Source::File(file)),
+        Err(e) => {
+            unreadable(out, path, e.kind());
+            None
+        }
     }
-    fd
 }
 
 // Closes a file that was read; standard input stays open.
-pub fn close(fd: i32) {
-    if fd != libc::STDIN_FILENO {
-        libc::close(fd);
-    }
-}
+pub fn close(_source: Source) {}
 
 // Reads so many bytes of the file and drops them; whether there are as many.
-fn pass(fd: i32, room: &mut [u8], count: u64) -> bool {
+fn pass(source: &mut Source, room: &mut [u8], count: u64) -> bool {
     let mut left = count;
     while 0 < left {
-        let got = read_some(fd, room, left);
+        let got = read_some(source, room, left);
         if got == 0 {
             return false;
         }
@@ -168,30 +195,42 @@ fn pass(fd: i32, room: &mut [u8], count: u64) -> bool {
 }
 
 // Reads up to so many bytes of the file; how many they are, none at the end or where reading fails.
-fn read_some(fd: i32, room: &mut [u8], most: u64) -> usize
+fn read_some(source: &mut Source, room: &mut [u8], most: u64) -> usize
     ensures { result ≤ most }
 {
     let n = util::groups::hold(most, room.len() as u64) as usize;
-    read_once(fd, &mut room[0..n]).count
+    read_once(source, &mut room[0..n]).count
+}
+
+// Goes to an offset of a file, where it has positions; whether that was done.
+fn seek_source(source: &mut Source, offset: u64) -> bool {
+    match source {
+        Source::Nothing => false,
+        Source::Stdin(_) => false,
+        Source::File(file) => file.seek(SeekFrom::Start(offset)).is_ok(),
+    }
 }
 
 // Goes to an offset of a file that nothing was read of yet, by reading where the file has no positions; whether that was done.
-pub fn seek(fd: i32, room: &mut [u8], offset: u64) -> bool {
+pub fn seek(source: &mut Source, room: &mut [u8], offset: u64) -> bool {
     if 4611686018427387903 < offset {
         return false;
     }
-    if 0 <= libc::lseek(fd, offset as i64, libc::SEEK_SET) {
+    if seek_source(source, offset) {
         return true;
     }
-    pass(fd, room, offset)
+    pass(source, room, offset)
 }
 
 // Says on standard error how far a long file is read, where that is a terminal.
 pub fn progress(out: &mut Output, base: u64) {
-    if libc::isatty(libc::STDERR_FILENO) != 1 {
+    let mut stderr = runtime(out).stderr();
+    if !stderr.is_terminal() {
         return;
     }
     desk_print::output::flush(out);
-    io::print_decimal(libc::STDERR_FILENO, base / 1000000);
-    io::write_all(libc::STDERR_FILENO, b" million bytes read\n");
+    let mut text = [0u8; 20];
+    let k = io::decimal(base / 1000000, &mut text);
+    let _ = stderr.write_all(&text[..k]);
+    let _ = stderr.write_all(b" million bytes read\n");
 }

@@ -1,27 +1,43 @@
 // Standard output, gathered and written out in large pieces; error lines, each behind what was put before it.
-ghost use Rattle.std.specs.Prelude.{◌≡◌, [], ◌∷◌, ◌++◌, ◌+◌, ◌≤◌, ◌<◌, eqb, not, length, get_or, set};
+ghost use Rattle.std.specs.Prelude.{◌≡◌, ℕ, List, [], ◌∷◌, ◌++◌, ◌+◌, ◌≤◌, ◌<◌, eqb, not, length, get_or, set};
 ghost use Rattle.desk_print.specs.Output.{count_of, gathered, Sound, Fresh, Put, Counted, Failed, Tried, Flushed, Added};
 ghost use Rattle.desk_print.specs.Text.{path_of};
 ghost use Rattle.util.specs.Splice.{splice};
 
 use super::{names, number, put};
-use libc::STDOUT_FILENO;
+use std::io::Write;
+use std::marker::Model;
 
 // The bytes that are gathered at most.
 pub const ROOM: usize = 65535;
 
 // The gathered bytes; behind them two bytes that say how many there are, one that is not 0 once a write has failed, and one that names the
-// file of error lines.
-pub type Output = [u8; 65539];
+// file of error lines. Contracts see these bytes alone; beside them stands the system, whose standard output and standard error they go to.
+#[derive(Drop)]
+pub struct Output {
+    room: [u8; 65539],
+    rt: HostRuntime,
+}
+
+impl Model for Output {
+    ghost Value = { List ℕ };
+
+    ghost view = { λ o. o.room };
+}
 
 // An output with nothing gathered; error lines go to an open file.
-pub fn new(errors: u8) -> Output
+pub fn new(rt: HostRuntime, errors: u8) -> Output
     ensures value { 65539 ≡ length result }
     ensures fresh { Fresh result }
 {
-    let mut out = [0; 65539];
-    out[65538] = errors;
-    out
+    let mut room = [0; 65539];
+    room[65538] = errors;
+    Output { room, rt }
+}
+
+// The system that an output writes to.
+pub fn runtime(out: &Output) -> HostRuntime {
+    out.rt
 }
 
 // A byte as a wider number.
@@ -35,7 +51,7 @@ fn wide(x: u8) -> usize
 fn count(out: &Output) -> usize
     ensures { (result ≡ count_of out.now) × (result ≤ 65535) }
 {
-    wide(out[65535]) + wide(out[65536]) * 256
+    wide(out.room[65535]) + wide(out.room[65536]) * 256
 }
 
 // Stores a byte at a place.
@@ -51,46 +67,62 @@ fn set_count(out: &mut Output, n: usize)
     requires { n ≤ 65535 }
     ensures { Counted out.old n out.new }
 {
-    store(out, 65535, (n % 256) as u8);
-    store(out, 65536, (n / 256) as u8);
+    store(&mut out.room, 65535, (n % 256) as u8);
+    store(&mut out.room, 65536, (n / 256) as u8);
 }
 
 // Whether a write has failed.
 pub fn is_failed(out: &Output) -> bool
     ensures { result ≡ not (eqb (get_or out.now 65537 0) 0) }
 {
-    out[65537] != 0
+    out.room[65537] != 0
+}
+
+// An open file that text is written to.
+#[derive(Clone, Copy)]
+enum To {
+    Stdout,
+    Stderr,
 }
 
 // The open file of error lines.
-fn errors(out: &Output) -> i32 {
-    if out[65538] == 1 {
-        libc::STDOUT_FILENO
+fn errors(out: &Output) -> To {
+    if out.room[65538] == 1 {
+        To::Stdout
     } else {
-        libc::STDERR_FILENO
+        To::Stderr
+    }
+}
+
+// Writes bytes to an open file; whether they are written.
+fn write_all(to: To, out: &Output, text: &[u8]) -> bool {
+    match to {
+        To::Stdout => out.rt.stdout().write_all(text).is_ok(),
+        To::Stderr => out.rt.stderr().write_all(text).is_ok(),
     }
 }
 
 // Writes a text, which is all that is gathered, to an open file.
-fn write_text(fd: i32, out: &Output, text: &[u8]) -> bool
+fn write_text(to: To, out: &Output, text: &[u8]) -> bool
     requires { text.now ≡ gathered out.now }
 {
-    io::write_all(fd, text)
+    write_all(to, out, text)
 }
 
 // Writes what is gathered to an open file.
-fn write_gathered(fd: i32, out: &Output) -> bool {
+fn write_gathered(to: To, out: &Output) -> bool {
     let n = count(out);
-    write_text(fd, out, util::bytes::sub_slice(out, 0, n))
+    write_text(to, out, util::bytes::sub_slice(&out.room, 0, n))
 }
 
 // Remembers that a write has failed, and says so.
 pub fn fail(out: &mut Output)
     ensures { Failed out.old out.new }
 {
-    store(out, 65537, 1);
-    io::write_all(
+    store(&mut out.room, 65537, 1);
+    write_all(
         errors(out),
+        out,
         b"standard output: cannot be written (is the disk full?)\n",
     );
 }
@@ -102,7 +134,7 @@ fn write_out(out: &mut Output)
     if is_failed(out) {
         return;
     }
-    if !write_gathered(STDOUT_FILENO, out) {
+    if !write_gathered(To::Stdout, out) {
         fail(out);
     }
 }
@@ -131,7 +163,7 @@ fn gather(out: &mut Output, text: &[u8]) -> bool
     if ROOM - n < text.len() {
         return false;
     }
-    place(out, n, text);
+    place(&mut out.room, n, text);
     set_count(out, n + text.len());
     true
 }
@@ -144,7 +176,7 @@ fn send(out: &mut Output, text: &[u8])
     if is_failed(out) {
         return;
     }
-    if !io::write_all(STDOUT_FILENO, text) {
+    if !write_all(To::Stdout, out, text) {
         fail(out);
     }
 }

@@ -7,17 +7,20 @@ mod split;
 ghost use Rattle.std.specs.Prelude.{◌≤◌, length};
 
 use desk_commands::words;
-use desk_print::output::Output;
+use desk_io::pieces;
+use desk_io::pieces::Source;
+use desk_print::output::{Output, runtime};
 use desk_print::{output, say};
 
 // Runs the first n words; lines are read from a file.
 fn run_with(out: &mut Output, w: &[u8], n: usize, path: &[u8]) {
-    let input = os::open_read(path);
+    let mut input = match pieces::open_file(runtime(out), path) {
+        Ok(file) => Source::File(file),
+        Err(_) => Source::Nothing,
+    };
     let end = words::start_of(w, n);
-    desk_commands::run(out, util::bytes::sub_slice(w, 0, end), input);
-    if 0 <= input {
-        libc::close(input);
-    }
+    desk_commands::run(out, util::bytes::sub_slice(w, 0, end), &mut input);
+    pieces::close(input);
 }
 
 // Runs words, of which the last two may name a file of lines.
@@ -28,7 +31,7 @@ fn run_words(out: &mut Output, w: &[u8]) {
             return run_with(out, w, n - 2, words::word(w, n - 1));
         }
     }
-    desk_commands::run(out, w, -1);
+    desk_commands::run(out, w, &mut Source::Nothing);
 }
 
 // Writes a line, and runs it.
@@ -69,10 +72,10 @@ fn run_lines(out: &mut Output, s: &[u8]) {
     }
 }
 
-fn main() {
+fn main(rt: HostRuntime) {
     let mut room = io::large_buffer();
-    let n = io::read_full(libc::STDIN_FILENO, &mut room);
-    let mut out = output::new(1);
+    let n = pieces::read_all(&mut Source::Stdin(rt.stdin()), &mut room).count;
+    let mut out = output::new(rt, 1);
     run_lines(&mut out, &room[..n]);
     output::flush(&mut out);
 }

@@ -3,6 +3,7 @@ ghost use Rattle.std.specs.Prelude.{◌≤◌, length};
 
 use super::errors::{are_good, are_values, is_name, seven};
 use super::{keys, scale};
+use desk_io::pieces::Source;
 use desk_io::{output, pieces};
 use desk_print::output::{Output, complain};
 use desk_print::{number, say, units};
@@ -14,11 +15,11 @@ use util::limits::{KEYS, LARGEST_U7};
 use writer::Written;
 
 // Reads all lines; how many bytes there are, or the size of the buffer and a line that says why not.
-fn read_input(out: &mut Output, input: i32, room: &mut [u8]) -> usize
+fn read_input(out: &mut Output, input: &mut Source, room: &mut [u8]) -> usize
     ensures { result ≤ length room.old }
 {
     let got = pieces::read_all(input, room);
-    if got.is_failed {
+    if got.failure.is_some() {
         complain(out, b"standard input", b"cannot be read");
         return room.len();
     }
@@ -93,7 +94,7 @@ fn save_keys(out: &mut Output, path: &[u8], program: u8, name: &[u8], s: &[u8]) 
 }
 
 // Makes a key dump of the lines of an open file.
-pub fn tune(out: &mut Output, path: &[u8], program: &[u8], name: &[u8], input: i32) {
+pub fn tune(out: &mut Output, path: &[u8], program: &[u8], name: &[u8], input: &mut Source) {
     let p = seven(out, program);
     if LARGEST_U7 < p {
         return;
@@ -148,7 +149,7 @@ pub fn make_scale(
     bank: &[u8],
     program: &[u8],
     name: &[u8],
-    input: i32,
+    input: &mut Source,
 ) {
     let b = seven(out, bank);
     if LARGEST_U7 < b {

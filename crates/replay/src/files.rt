@@ -3,10 +3,10 @@ ghost use Rattle.std.specs.Prelude.{length};
 ghost use Rattle.replay_vectors.specs.Extents.{Inside};
 
 use desk_io::pieces;
-use desk_io::pieces::{Piece, sum};
-use libc::STDOUT_FILENO;
+use desk_io::pieces::{Piece, Source, sum};
 use replay_vectors::cases::{Case, Extents};
 use replay_vectors::parts::Verdict;
+use std::io::Write;
 use util::bytes::{at_most, sub_slice};
 
 // How many failed cases of a file are named.
@@ -24,45 +24,52 @@ pub struct Progress {
     pub is_done: bool,
 }
 
+// Prints a text. A write that fails has nowhere to be told.
+pub fn write(rt: HostRuntime, text: &[u8]) {
+    let _ = rt.stdout().write_all(text);
+}
+
 // Prints a number between texts.
-pub fn print(before: &[u8], number: u64, behind: &[u8]) {
-    io::write_all(STDOUT_FILENO, before);
-    io::print_decimal(STDOUT_FILENO, number);
-    io::write_all(STDOUT_FILENO, behind);
+pub fn print(rt: HostRuntime, before: &[u8], number: u64, behind: &[u8]) {
+    let mut text = [0u8; 20];
+    let k = io::decimal(number, &mut text);
+    write(rt, before);
+    write(rt, &text[..k]);
+    write(rt, behind);
 }
 
 // Prints what is wrong with a case, and ends the file.
-fn stop(p: Progress, name: &[u8], what: &[u8]) -> Progress {
+fn stop(rt: HostRuntime, p: Progress, name: &[u8], what: &[u8]) -> Progress {
     let mut q = p;
-    io::write_all(STDOUT_FILENO, name);
-    print(what, p.number, b"\n");
+    write(rt, name);
+    print(rt, what, p.number, b"\n");
     q.failed = sum(p.failed, 1);
     q.is_done = true;
     q
 }
 
 // Prints that a file cannot be read, and ends it.
-fn unreadable(p: Progress, name: &[u8]) -> Progress {
+fn unreadable(rt: HostRuntime, p: Progress, name: &[u8]) -> Progress {
     let mut q = p;
-    io::write_all(STDOUT_FILENO, name);
-    io::write_all(STDOUT_FILENO, b": cannot be read\n");
+    write(rt, name);
+    write(rt, b": cannot be read\n");
     q.failed = sum(p.failed, 1);
     q.is_done = true;
     q
 }
 
 // Moves the rest of the buffer to its start, and reads more bytes of the file behind it.
-fn read_more(p: Progress, fd: i32, name: &[u8], room: &mut [u8]) -> Progress {
+fn read_more(rt: HostRuntime, p: Progress, source: &mut Source, name: &[u8], room: &mut [u8]) -> Progress {
     let len = at_most(p.len, room.len());
     let at = at_most(p.at, len);
     let held = Piece {
         base: 0,
         len,
-        is_failed: false,
+        failure: None,
     };
-    let piece = pieces::next(fd, room, held, at);
-    if piece.is_failed {
-        return unreadable(p, name);
+    let piece = pieces::next(source, room, held, at);
+    if piece.failure.is_some() {
+        return unreadable(rt, p, name);
     }
     let mut q = p;
     q.len = piece.len;
@@ -72,16 +79,16 @@ fn read_more(p: Progress, fd: i32, name: &[u8], room: &mut [u8]) -> Progress {
 }
 
 // Goes on where the buffer ends inside a case. A file that is not at its end fills the buffer, which no case does.
-fn go_on(p: Progress, fd: i32, name: &[u8], room: &mut [u8]) -> Progress {
+fn go_on(rt: HostRuntime, p: Progress, source: &mut Source, name: &[u8], room: &mut [u8]) -> Progress {
     let mut q = p;
     if 0 < p.at {
-        return read_more(p, fd, name, room);
+        return read_more(rt, p, source, name, room);
     }
     if room.len() <= p.len {
-        return stop(p, name, b": malformed in case ");
+        return stop(rt, p, name, b": malformed in case ");
     }
     if 0 < p.len {
-        return stop(p, name, b": cut in case ");
+        return stop(rt, p, name, b": cut in case ");
     }
     q.is_done = true;
     q
@@ -102,7 +109,7 @@ fn replay_case(s: &[u8], e: Extents) -> Verdict
 }
 
 // Replays the next case among the bytes that are held, where it is whole, and counts it.
-fn replay_next(s: &[u8], p: Progress, name: &[u8]) -> Progress {
+fn replay_next(rt: HostRuntime, s: &[u8], p: Progress, name: &[u8]) -> Progress {
     let mut q = p;
     let Case::Whole(e) = replay_vectors::cases::case_at(s, p.at) else {
         q.is_cut = true;
@@ -118,39 +125,39 @@ fn replay_next(s: &[u8], p: Progress, name: &[u8]) -> Progress {
         Verdict::Failed => {
             q.failed = sum(p.failed, 1);
             if p.failed < NAMED {
-                print(b"case ", p.number, b" failed\n");
+                print(rt, b"case ", p.number, b" failed\n");
             }
             q
         }
-        Verdict::Malformed => stop(p, name, b": malformed in case "),
+        Verdict::Malformed => stop(rt, p, name, b": malformed in case "),
     }
 }
 
 // Replays the next case, or reads more.
-fn turn(p: Progress, fd: i32, name: &[u8], room: &mut [u8]) -> Progress {
-    let q = replay_next(sub_slice(room, 0, p.len), p, name);
+fn turn(rt: HostRuntime, p: Progress, source: &mut Source, name: &[u8], room: &mut [u8]) -> Progress {
+    let q = replay_next(rt, sub_slice(room, 0, p.len), p, name);
     if q.is_cut {
-        return go_on(q, fd, name, room);
+        return go_on(rt, q, source, name, room);
     }
     q
 }
 
 // Replays an open file. Nothing says that a file ends, so the turns are counted down from a number that no run uses up.
-fn replay_open(fd: i32, name: &[u8], room: &mut [u8], start: Progress) -> Progress {
-    let mut p = read_more(start, fd, name, room);
+fn replay_open(rt: HostRuntime, source: &mut Source, name: &[u8], room: &mut [u8], start: Progress) -> Progress {
+    let mut p = read_more(rt, start, source, name, room);
     let mut turns = u64::MAX;
     while turns > 0 {
         if p.is_done {
             break;
         }
-        p = turn(p, fd, name, room);
+        p = turn(rt, p, source, name, room);
         turns -= 1;
     }
     p
 }
 
 // Replays the file of a name.
-pub fn replay_name(name: &[u8], room: &mut [u8]) -> Progress {
+pub fn replay_name(rt: HostRuntime, name: &[u8], room: &mut [u8]) -> Progress {
     let start = Progress {
         len: 0,
         at: 0,
@@ -160,11 +167,11 @@ pub fn replay_name(name: &[u8], room: &mut [u8]) -> Progress {
         is_cut: false,
         is_done: false,
     };
-    let fd = os::open_read(name);
-    if fd < 0 {
-        return unreadable(start, name);
-    }
-    let p = replay_open(fd, name, room, start);
-    libc::close(fd);
+    let Ok(file) = pieces::open_file(rt, name) else {
+        return unreadable(rt, start, name);
+    };
+    let mut source = Source::File(file);
+    let p = replay_open(rt, &mut source, name, room, start);
+    pieces::close(source);
     p
 }

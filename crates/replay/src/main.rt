@@ -4,8 +4,8 @@
 mod files;
 
 use desk_io::pieces::sum;
-use files::print;
-use libc::STDOUT_FILENO;
+use files::{print, write};
+use std::env::{Env, FillError};
 
 // How many cases passed and failed.
 #[derive(Clone, Copy)]
@@ -15,43 +15,52 @@ struct Tally {
 }
 
 // Prints how many cases passed and failed.
-fn print_tally(name: &[u8], passed: u64, failed: u64) {
-    io::write_all(STDOUT_FILENO, name);
-    print(b": ", passed, b" passed, ");
-    print(b"", failed, b" failed\n");
+fn print_tally(rt: HostRuntime, name: &[u8], passed: u64, failed: u64) {
+    write(rt, name);
+    print(rt, b": ", passed, b" passed, ");
+    print(rt, b"", failed, b" failed\n");
 }
 
-// Replays the file of an argument, and adds its cases.
-fn replay_argument(i: usize, room: &mut [u8], t: Tally) -> Tally {
-    let mut path = io::buffer();
-    let n = os::arg(i, &mut path);
-    let name = &path[..n];
-    let p = files::replay_name(name, room);
-    print_tally(name, p.passed, p.failed);
+// Replays the file of a name, and adds its cases.
+fn replay_file(rt: HostRuntime, name: &[u8], room: &mut [u8], t: Tally) -> Tally {
+    let p = files::replay_name(rt, name, room);
+    print_tally(rt, name, p.passed, p.failed);
     Tally {
         passed: sum(t.passed, p.passed),
         failed: sum(t.failed, p.failed),
     }
 }
 
+// Replays the file of an argument, and adds its cases; nothing where there is no such argument. One that is longer than any name names no file.
+fn replay_argument(rt: HostRuntime, i: usize, room: &mut [u8], t: Tally) -> Option<Tally> {
+    let mut path = io::buffer();
+    match rt.arg(i, &mut path) {
+        Ok(n) => Some(replay_file(rt, &path[..n], room, t)),
+        Err(FillError::TooLong) => Some(replay_file(rt, b"", room, t)),
+        Err(FillError::NotPresent) => None,
+    }
+}
+
 // Replays the files of all arguments.
-fn replay_all(room: &mut [u8]) -> Tally {
-    let count = os::arg_count();
+fn replay_all(rt: HostRuntime, room: &mut [u8]) -> Tally {
     let mut t = Tally {
         passed: 0,
         failed: 0,
     };
     let mut i = 1;
-    while i < count {
-        t = replay_argument(i, room, t);
+    while i < usize::MAX {
+        let Some(sums) = replay_argument(rt, i, room, t) else {
+            break;
+        };
+        t = sums;
         i += 1;
     }
     t
 }
 
 // The buffer is longer than any case.
-fn main() {
+fn main(rt: HostRuntime) {
     let mut room = [0u8; 524288];
-    let t = replay_all(&mut room);
-    print_tally(b"total", t.passed, t.failed);
+    let t = replay_all(rt, &mut room);
+    print_tally(rt, b"total", t.passed, t.failed);
 }

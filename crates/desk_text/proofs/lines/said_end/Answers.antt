@@ -14,14 +14,14 @@ pub returns-then-is_comment : goal.returns-then-is_comment
 returns-then-is_comment c =
     let l = c.loop-i in
     let s = c.args.line.now in
-    let e = said_stop l.may-begin s l.i c.loop-i-test.true (sym c.is_comment.ensures ∙ c.if-is_comment.true) in
+    let e = said_stop l.may_begin s l.i c.loop-i-test.true (sym c.is_comment.ensures ∙ c.if-is_comment.true) in
     omega (arith, e, l.invariant)
 
 pub loop-i-preserved : goal.loop-i-preserved
 loop-i-preserved c =
     let l = c.loop-i in
     let s = c.args.line.now in
-    let e = said_more l.may-begin s l.i c.loop-i-test.true (sym c.is_comment.ensures ∙ c.if-is_comment.false) in
+    let e = said_more l.may_begin s l.i c.loop-i-test.true (sym c.is_comment.ensures ∙ c.if-is_comment.false) in
     let f = ap (λ (b : Bool). said_length b (drop (l.i + 1) s)) c.is_blank-may_begin.ensures in
     omega (arith, e, f, l.invariant)
 
@@ -29,5 +29,5 @@ pub returns : goal.returns
 returns c =
     let l = c.loop-i in
     let s = c.args.line.now in
-    let e = said_past l.may-begin s l.i c.loop-i-test.false in
+    let e = said_past l.may_begin s l.i c.loop-i-test.false in
     omega (arith, e, l.invariant)

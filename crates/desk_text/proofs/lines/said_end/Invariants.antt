@@ -11,7 +11,7 @@ use Rattle.desk_text.proofs.Laws.Spans.{said_past, said_stop, said_more}
 use Rattle.desk_text.proofs.lines.said_end.Given as goal
 
 abbrev pub invariant-loop-i : goal.invariant-loop-i
-invariant-loop-i l = l.i + said_length may-begin (drop l.i l.line) ≡ said_length true l.line
+invariant-loop-i l = l.i + said_length l.may_begin (drop l.i l.line) ≡ said_length true l.line
 
 abbrev pub decreases-loop-i : goal.decreases-loop-i
 decreases-loop-i l = length l.line - l.i

@@ -1,0 +1,20 @@
+-- `desk_print::names::put_chars` meets its contract. The invariant: the texts of the bytes so far are put.
+-- Assumes nothing.
+use Prim.Native.Nat.{◌≤◌, ◌-◌}
+use lib.ListN.{length, take}
+use Rattle.desk_print.specs.Output.{Put}
+use Rattle.desk_print.specs.Text.{each, name_char}
+use Rattle.desk_print.proofs.Texts.{each_begin, each_turn, each_end}
+use borrow.Author.Rules.{rules}
+use Rattle.desk_print.proofs.names.put_chars.Goals as goal
+
+pub loop-i-init : goal.loop-i-init
+loop-i-init c = (search rules, each_begin name_char c.args.s.now c.args.out.now)
+
+pub loop-i-preserved : goal.loop-i-preserved
+loop-i-preserved c =
+    let l = c.loop-i in
+    (search rules, each_turn name_char c.args.s.now l.i c.loop-i-test.true l.invariant.1 c.put_char.ensures)
+
+pub returns : goal.returns
+returns c = each_end name_char c.args.s.now c.loop-i.i c.loop-i-test.false c.loop-i.invariant.1
