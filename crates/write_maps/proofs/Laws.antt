@@ -50,6 +50,11 @@ one_held es i e x h p = rw (add-one, take-suc-set es i e h, map-append map_of (t
 pub one_more : (l : List SoundFileMap) (i : ℕ) (d : SoundFileMap) → i < length l → take i l ++ (get_or l i d ∷ []) ≡ take (i + 1) l
 one_more l i d h = rw (add-one) (sym (take-suc l i d h))
 
+-- where the first i entries say the first i records, and entry i is packed from record i, the first i + 1 entries say the first i + 1 records
+pub one_packed : (l : List SoundFileMap) (es : List ℕ) (i e : ℕ) (d : SoundFileMap) → i < length es → i < length l → map_of e ≡ get_or l i d → map map_of (take i es) ≡ take i l
+    → map map_of (take (i + 1) (set es i e)) ≡ take (i + 1) l
+one_packed l es i e d h k p held = one_held es i e (get_or l i d) h p ∙ (ap (λ (a : List SoundFileMap). a ++ (get_or l i d ∷ [])) held ∙ one_more l i d k)
+
 -- the record that an entry says, and none past the last entry
 pub mapped_at : (es : List ℕ) (i : ℕ) → i < length es → get_or (map map_of es) i default_sound_file_map ≡ map_of (get_or es i 0)
 mapped_at [] i h = absurd (omega arith)

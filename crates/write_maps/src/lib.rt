@@ -56,7 +56,7 @@ fn write_entries(
     )
 }
 
-// Writes the frame of a file reference whose bank maps are the records at a place of the output. Proved by hand.
+// Writes the frame of a file reference whose bank maps are the records at a place of the output.
 pub fn write_maps(
     device: DeviceID,
     m: FileReferenceMsg,
@@ -85,7 +85,7 @@ fn lent(n: usize) -> usize
     if n < 130 { n } else { 130 }
 }
 
-// Writes beside the first n of 130 records by value: whoever calls it is proved with no walk. Proved by hand.
+// Writes beside the first n of 130 records by value.
 pub fn write_first(
     device: DeviceID,
     m: FileReferenceMsg,
