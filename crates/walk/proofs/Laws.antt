@@ -4,3 +4,4 @@ pub mod Shape
 pub mod Reached
 pub mod Index
 pub mod Answers
+pub mod Listing
