@@ -38,7 +38,7 @@ loop-at-preserved c =
     let m = c.is_comment in (
       search rules,
       skipped_words s e.result k.result k.ensures
-          ∙ sym (comment_turn s l.at e.result t e.ensures (l.invariant.2 t) (sym m.ensures ∙ c.if-not-is_comment.false)
+          ∙ sym (comment_turn s l.at e.result t e.ensures (l.invariant.2 t) (sym m.ensures ∙ c.if-not-is_comment.false))
           ∙ l.invariant.1,
       skipped_stop s e.result k.result k.ensures,
     )
