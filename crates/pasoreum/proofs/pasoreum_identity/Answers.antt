@@ -1,0 +1,21 @@
+-- `pasoreum::pasoreum_identity` meets its contract: the answer of identity reading, and its numbers.
+-- Assumes nothing.
+use mathlib.Core.Path.{sym, ◌∙◌}
+use borrow.Author.Tests.{lt-ltb}
+use Rattle.pasoreum.proofs.Laws.{replied, unreplied}
+use borrow.Author.Rules.{rules}
+use Rattle.pasoreum.proofs.pasoreum_identity.Goals as goal
+
+pub returns-then-answer-lt9 : goal.returns-then-answer-lt9
+returns-then-answer-lt9 c = let t = lt-ltb _ _ c.if-answer-lt9.true in
+    (rw t, rw t)
+
+pub returns-in-Reply : goal.returns-in-Reply
+returns-in-Reply c =
+    let e = sym c.in-Reply.is ∙ c.from_midi.ensures in
+    replied c.args.bytes.now c.args.answer.now _ _ _ c.if-answer-lt9.false e c.put_reply.ensures
+
+pub returns-in-Refused : goal.returns-in-Refused
+returns-in-Refused c =
+    let e = sym c.in-Refused.is ∙ c.from_midi.ensures in
+    unreplied c.args.bytes.now c.args.answer.now _ _ c.if-answer-lt9.false e c.number.ensures
