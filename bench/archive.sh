@@ -4,14 +4,14 @@ work=$(mktemp -d)
 trap 'rm -rf "$work"' EXIT
 release="-C opt-level=3 -C debug-assertions=off -C overflow-checks=off"
 
-# build_archive: `lib` is the folder of libpasoreum.a, the one that PASOREUM_LIB_DIR names, or else target/staticlib. There the archive is made if
+# build_archive: `lib` is the folder of libpasoreum.a, the one that PASOREUM_LIB_DIR names, or else crates/pasoreum/out. There the archive is made if
 # it is missing or older than a source.
 build_archive() {
-    lib=${PASOREUM_LIB_DIR:-$here/target/staticlib}
+    lib=${PASOREUM_LIB_DIR:-$here/crates/pasoreum/out}
     [ -z "${PASOREUM_LIB_DIR:-}" ] || return 0
     local made_of=("$here/crates.txt" "$here"/crates/*/src "$here"/crates/*/specs "$here"/crates/*/proofs)
     if [ ! -e "$lib/libpasoreum.a" ] || [ -n "$(find "${made_of[@]}" -type f -newer "$lib/libpasoreum.a" -print -quit 2> "$work/log")" ]; then
-        (cd "$here" && rt staticlib pasoreum > "$work/log" 2>&1) || { tail -20 "$work/log"; exit 1; }
+        (cd "$here/crates/pasoreum" && rt lib > "$work/log" 2>&1) || { tail -20 "$work/log"; exit 1; }
     fi
 }
 

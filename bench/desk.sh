@@ -1,12 +1,12 @@
 #!/usr/bin/env bash
 # bench/desk.sh: times `desk list` of a capture of 40,000,000 bytes into a file against examples/capture.c, and counts its calls of write(). The desk is
-# target/bin/desk. PASOREUM_LIB_DIR names the folder of another libpasoreum.a.
+# crates/desk/out/desk. PASOREUM_LIB_DIR names the folder of another libpasoreum.a.
 set -eu
 . "$(dirname "$0")/archive.sh"
 . "$here/tests/count_writes.sh"
 export PYTHONDONTWRITEBYTECODE=1
-desk=$here/target/bin/desk
-[ -x "$desk" ] || { echo "bench/desk.sh: no target/bin/desk: run rt check desk first"; exit 1; }
+desk=$here/crates/desk/out/desk
+[ -x "$desk" ] || { echo "bench/desk.sh: no crates/desk/out/desk: run rt run in crates/desk first"; exit 1; }
 build_archive
 gcc -std=c99 -O2 -Wall -Wextra -I "$here/include" "$here/examples/capture.c" "$lib/libpasoreum.a" -o "$work/capture"
 python3 "$here/tests/make_large.py" "$work/large.syx" > "$work/places"

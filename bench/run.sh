@@ -49,8 +49,8 @@ T
 middle "$work/walk" 10 65 72
 
 echo
-if [ -x "$here/target/bin/desk" ]; then
+if [ -x "$here/crates/desk/out/desk" ]; then
     PASOREUM_LIB_DIR=$lib bash "$here/bench/desk.sh"
 else
-    echo "desk list: not timed, no target/bin/desk (rt check desk)"
+    echo "desk list: not timed, no crates/desk/out/desk (rt run in crates/desk)"
 fi

@@ -1,7 +1,7 @@
 /*
  * capture bank|wav FILE: lists the frames of a capture of any length, a line each: offset, length, head, what it is, its main fields.
  *
- * cc -std=c99 -Iinclude examples/capture.c target/staticlib/libpasoreum.a -o capture
+ * cc -std=c99 -Iinclude examples/capture.c crates/pasoreum/out/libpasoreum.a -o capture
  */
 #include "pasoreum.h"
 

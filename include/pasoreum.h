@@ -1,7 +1,7 @@
 /*
  * Pasoreum: MIDI Universal Non-Real-Time System Exclusive frames written, read, and found in a stream.
  *
- * Link libpasoreum.a, which `rt staticlib pasoreum` makes. C99 or C++98 and later, on x86-64 Linux. Every function ends on every input, keeps no
+ * Link libpasoreum.a, which `rt lib` in crates/pasoreum makes. C99 or C++98 and later, on x86-64 Linux. Every function ends on every input, keeps no
  * state, allocates nothing, and may be called from any thread.
  *
  * A function that can refuse answers 0, or the number of a refusal. A refused call alters nothing of what it was lent; what it answers through

@@ -1,12 +1,12 @@
 #!/usr/bin/env bash
 # What the gate cannot hold of the desk: standard output and standard error apart, pipes, a full disk, a terminal, a large file, names of files, the
 # manual page, the guide's commands.
-# usage: tests/desk.sh    (after rt check; needs python3 and gcc; prints one line for each test, and how many failed)
+# usage: tests/desk.sh    (after rt run in crates/desk; needs python3 and gcc; prints one line for each test, and how many failed)
 cd "$(dirname "$0")/.." || exit 1
 export PYTHONDONTWRITEBYTECODE=1
 root=$PWD
-desk=$root/target/bin/desk
-[ -x "$desk" ] || { echo "tests/desk.sh: no target/bin/desk: run rt check first"; exit 1; }
+desk=$root/crates/desk/out/desk
+[ -x "$desk" ] || { echo "tests/desk.sh: no crates/desk/out/desk: run rt run in crates/desk first"; exit 1; }
 . "$root/tests/count_writes.sh"
 room=$(mktemp -d) || exit 1
 trap 'rm -rf "$room"' EXIT

@@ -3,8 +3,8 @@
 
 usage: run_guide.py ROOT FOLDER
 
-ROOT is the repository, with target/bin made. The commands run in one shell, which begins in a copy of what a clone of ROOT has, made in FOLDER, with
-ROOT's target/bin linked into it. A command is an indented line that begins with `$ `; the indented lines below it are what it prints, both streams;
+ROOT is the repository, with the program desk made. The commands run in one shell, which begins in a copy of what a clone of ROOT has, made in FOLDER, with
+ROOT's crates/desk/out linked into it. A command is an indented line that begins with `$ `; the indented lines below it are what it prints, both streams;
 a line `...` stands for any number of lines. An indented line that begins with `% ` is a command that is not run.
 """
 import os
@@ -40,8 +40,7 @@ def copy_of_clone(room):
         if name and os.path.exists(path):
             os.makedirs(os.path.dirname(os.path.join(room, name)), exist_ok=True)
             shutil.copy2(path, os.path.join(room, name))
-    os.makedirs(os.path.join(room, "target"))
-    os.symlink(os.path.join(root, "target", "bin"), os.path.join(room, "target", "bin"))
+    os.symlink(os.path.join(root, "crates", "desk", "out"), os.path.join(room, "crates", "desk", "out"))
 
 
 def run_all(cases, room, answers):

@@ -4,19 +4,17 @@
 timed() {
     local source=$1 part proof
     shift
-    mkdir -p "$work/port/target" "$work/port/crates/timed/src"
-    cp -r "$here/crates/." "$work/port/crates"
-    for part in rlib stamp; do
-        if [ -d "$here/target/$part" ]; then cp -r "$here/target/$part" "$work/port/target/$part"; fi
-    done
+    mkdir -p "$work/port"
+    cp -r "$here/crates" "$work/port/crates"
+    mkdir -p "$work/port/crates/timed/src"
     cp "$here/bench/direct/$source.rt.txt" "$work/port/crates/timed/src/lib.rt"
     for proof in "$here/bench/direct/$source"/*.antt.txt; do
         [ -e "$proof" ] || continue
         part=$(basename "$proof" .antt.txt)
-        mkdir -p "$work/port/crates/timed/proofs/$part"
-        cp "$proof" "$work/port/crates/timed/proofs/$part/Proof.antt"
+        mkdir -p "$work/port/crates/timed/proofs/${part%.*}"
+        cp "$proof" "$work/port/crates/timed/proofs/${part%.*}/${part##*.}.antt"
     done
-    { cat "$here/crates.txt"; echo "timed: $*"; } > "$work/port/crates.txt"
-    (cd "$work/port" && rt staticlib timed > "$work/log" 2>&1) || { tail -20 "$work/log"; exit 1; }
-    mv "$work/port/target/staticlib/libtimed.a" "$work/libtimed.a"
+    { cat "$here/crates.txt"; echo "timed staticlib: $*"; } > "$work/port/crates.txt"
+    (cd "$work/port/crates/timed" && rt lib > "$work/log" 2>&1) || { tail -20 "$work/log"; exit 1; }
+    mv "$work/port/crates/timed/out/libtimed.a" "$work/libtimed.a"
 }

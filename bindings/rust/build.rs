@@ -1,16 +1,16 @@
-//! Names the folder of libpasoreum.a: PASOREUM_LIB_DIR, or target/staticlib of the repository.
+//! Names the folder of libpasoreum.a: PASOREUM_LIB_DIR, or crates/pasoreum/out of the repository.
 use std::env;
 use std::path::PathBuf;
 
 fn main() {
     let folder = match env::var_os("PASOREUM_LIB_DIR") {
         Some(folder) => PathBuf::from(folder),
-        None => PathBuf::from(env::var_os("CARGO_MANIFEST_DIR").expect("set by cargo")).join("../../target/staticlib"),
+        None => PathBuf::from(env::var_os("CARGO_MANIFEST_DIR").expect("set by cargo")).join("../../crates/pasoreum/out"),
     };
     let archive = folder.join("libpasoreum.a");
     if !archive.exists() {
         println!(
-            "cargo:warning=no {}: make it with `rt staticlib pasoreum`, or set PASOREUM_LIB_DIR",
+            "cargo:warning=no {}: make it with `rt lib` in crates/pasoreum, or set PASOREUM_LIB_DIR",
             archive.display()
         );
     }

@@ -1,7 +1,7 @@
 //! MIDI Universal Non-Real-Time System Exclusive frames written, read, and found in a stream.
 //!
 //! The types have the names of the crate midi-msg 0.9.0, and what they do is done by the proved archive `libpasoreum.a`, which
-//! `rt staticlib pasoreum` makes. Cueing setup and real-time messages are left out. Where midi-msg has a `BString` there is a `Vec<u8>`, and
+//! `rt lib` in `crates/pasoreum` makes. Cueing setup and real-time messages are left out. Where midi-msg has a `BString` there is a `Vec<u8>`, and
 //! the rate of an extended header is two numbers.
 //!
 //! ```
@@ -19,11 +19,11 @@
 //!
 //! # Building
 //!
-//! `cargo build --offline` looks for `libpasoreum.a` in the folder `PASOREUM_LIB_DIR`, or else in `target/staticlib` of the repository.
+//! `cargo build --offline` looks for `libpasoreum.a` in the folder `PASOREUM_LIB_DIR`, or else in `crates/pasoreum/out` of the repository.
 //! With rustc alone, in this crate's folder:
 //!
 //! ```text
-//! rustc --edition 2021 --crate-type rlib --crate-name pasoreum src/lib.rs -L native=../../target/staticlib -l static=pasoreum
+//! rustc --edition 2021 --crate-type rlib --crate-name pasoreum src/lib.rs -L native=../../crates/pasoreum/out -l static=pasoreum
 //! rustc --edition 2021 examples/capture.rs --extern pasoreum=libpasoreum.rlib
 //! ```
 //!

@@ -32,7 +32,7 @@ use Rattle.messages.specs.MessageOf.{head_of, fields_of, message_of, head_sample
 use Rattle.messages.proofs.Exact.{settled_parts}
 use Rattle.messages.proofs.Walk.{bool_cases}
 use Rattle.numbers_to_message.specs.declared.fit.NumberType.TheVariants as type
-use Rattle.numbers_to_message.specs.Types.{DeviceID, TuningBank, LoopNumber, FileType, FileReferenceType, GeneralMidi, SampleDumpMsg, ExtendedSampleDumpMsg, ManufacturerID, IdentityReply, FileDumpMsg, Scale1Byte, Scale2Byte, WAVMap, SelectMap, FileReferenceMsg, UniversalNonRealTimeMsg}
+use Rattle.numbers_to_message.specs.Types.{DeviceID, TuningBank, LoopNumber, FileType, FileReferenceType, GeneralMidi, SampleDumpMsg, ExtendedSampleDumpMsg, ManufacturerID, FileDumpMsg, Scale1Byte, Scale2Byte, WAVMap, SelectMap, FileReferenceMsg, UniversalNonRealTimeMsg}
 use Rattle.numbers_to_message.specs.Values.{file_number_of, numbered}
 use Rattle.numbers_of_message.specs.Numbers.{of_sample, of_extended, of_identity, of_file, banked, of_midi, of_select, of_reference, coded}
 use Rattle.numbers_of_message.specs.Numbers as numbers

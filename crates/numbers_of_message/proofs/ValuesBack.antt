@@ -16,7 +16,6 @@ use Rattle.messages.specs.declared.tuning.TuningBank.TheVariants.{NoBank, Bank}
 use Rattle.messages.specs.declared.sample_dump.LoopNumber.TheVariants.{Loop, RequestAll, DeleteAll}
 use Rattle.messages.specs.declared.sample_dump.LoopType.TheVariants as loop
 use Rattle.messages.specs.declared.sample_dump.ExtendedLoopType.TheVariants as ext
-use Rattle.messages.specs.declared.file_dump.FileType.{FileType}
 use Rattle.messages.specs.declared.file_dump.FileType.TheVariants.{MIDI, MIEX, ESEQ, TEXT, BIN, MAC, Custom}
 use Rattle.messages.specs.declared.file_reference.FileReferenceType.TheVariants as reference
 use Rattle.numbers_of_message.specs.Numbers.{number}

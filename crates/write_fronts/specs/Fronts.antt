@@ -17,7 +17,6 @@ use Rattle.messages.specs.declared.sample_dump.ExtendedSampleDumpMsg.TheVariants
 use Rattle.messages.specs.declared.file_dump.FileDumpMsg.TheVariants as file
 use Rattle.messages.specs.declared.tuning.TuningBank.TheVariants.{NoBank, Bank}
 use Rattle.messages.specs.declared.general_midi.GeneralMidi.TheVariants.{GM1, Off, GM2}
-use Rattle.messages.specs.declared.file_reference.FileReferenceType.TheVariants.{WAV}
 use Rattle.messages.specs.declared.file_reference.SelectMap.TheVariants as select
 use Rattle.messages.specs.declared.file_reference.FileReferenceMsg.TheVariants as reference
 use Rattle.messages.specs.declared.system_exclusive.UniversalNonRealTimeMsg.TheVariants as msg

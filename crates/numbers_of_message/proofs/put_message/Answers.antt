@@ -1,6 +1,5 @@
 -- `numbers_of_message::put_message` meets its contract, message by message.
 -- Assumes nothing.
-use borrow.Author.Rules.{rules}
 use Rattle.numbers_of_message.proofs.put_message.Goals as goal
 
 pub returns-in-SampleDump : goal.returns-in-SampleDump

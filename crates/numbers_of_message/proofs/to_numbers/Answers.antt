@@ -4,7 +4,6 @@ use mathlib.Core.Path.{sym}
 use Prim.Native.Nat.{ℕ}
 use Rattle.numbers_of_message.specs.Numbers.{numbers, coded, numbers_of}
 use Rattle.numbers_of_message.proofs.Laws.{put_of}
-use borrow.Author.Rules.{rules}
 use Rattle.numbers_of_message.proofs.to_numbers.Goals as goal
 
 pub returns : goal.returns

@@ -6,7 +6,6 @@ use Prim.Native.Nat.{ℕ}
 use Rattle.messages.specs.Messages.{read_of}
 use Rattle.numbers_read.specs.Plain.{ReadPlain}
 use Rattle.numbers_read.proofs.Handshake.{six_is}
-use borrow.Author.Rules.{rules}
 use Rattle.numbers_read.proofs.put_handshake.Goals as goal
 
 pub returns : goal.returns

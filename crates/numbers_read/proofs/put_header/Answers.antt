@@ -11,7 +11,6 @@ use Rattle.read_places.specs.declared.Found.TheVariants.{Is}
 use Rattle.read_places.specs.Found.{Reads}
 use Rattle.reader.proofs.Laws.Fields.{lent_fields, long_enough, fields_seven, begins_within}
 use Rattle.numbers_read.proofs.Plain.{plain_met, plain_put}
-use borrow.Author.Rules.{rules}
 use Rattle.numbers_read.proofs.put_header.Goals as goal
 
 pub overflow_add-a : goal.overflow_add-a

@@ -8,7 +8,6 @@ use lib.ListN.{length-set}
 use Rattle.util.specs.Splice.{overwritten}
 use Rattle.util.proofs.Laws.Splice.{sets_front}
 use Rattle.numbers_to_message.specs.Values.{device_number_of}
-use borrow.Author.Rules.{rules}
 use Rattle.numbers_read.proofs.put_numbered.Goals as goal
 
 pub bounds-answer-1 : goal.bounds-answer-1

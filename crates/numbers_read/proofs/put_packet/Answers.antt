@@ -1,7 +1,6 @@
 -- `numbers_read::put_packet` meets its contract: a head of one byte, and the packet as its field.
 -- Assumes nothing.
 use Rattle.numbers_read.proofs.Handshake.{nak_any, ack_any}
-use borrow.Author.Rules.{rules}
 use Rattle.numbers_read.proofs.put_packet.Goals as goal
 
 pub returns-then-head-eq126 : goal.returns-then-head-eq126

@@ -5,14 +5,13 @@ use Rattle.messages.specs.declared.head.Head.{Head}
 use Rattle.reader.specs.declared.opening.Opening.TheVariants as opening
 use Rattle.reader.specs.Opening.{inner, opens_as, placed}
 use Rattle.numbers_read.specs.Plain.{ReadPlain}
-use borrow.Author.Rules.{rules}
 use Rattle.numbers_read.proofs.put_plain.Goals as goal
 
 pub put_header-requires : goal.put_header-requires
 put_header-requires c = let a = c.args in (
-      c.requires.0,
-      subst (λ (h : Head). placed (opening.Fields h a.start a.end a.sum) (inner a.frame.now)) c.in-SampleDumpHeader.is c.requires.1,
-    )
+  c.requires.0,
+  subst (λ (h : Head). placed (opening.Fields h a.start a.end a.sum) (inner a.frame.now)) c.in-SampleDumpHeader.is c.requires.1,
+)
 
 pub returns-in-SampleDumpHeader : goal.returns-in-SampleDumpHeader
 returns-in-SampleDumpHeader c = let f = c.args.frame.now in

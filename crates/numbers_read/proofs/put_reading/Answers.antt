@@ -9,7 +9,6 @@ use Rattle.util.specs.Splice.{overwritten}
 use Rattle.numbers_of_message.specs.Numbers.{numbers_of}
 use Rattle.numbers_read.proofs.Laws.{behind_length, behind_four}
 use Rattle.numbers_read.proofs.Counts.{at_most_16}
-use borrow.Author.Rules.{rules}
 use Rattle.numbers_read.proofs.put_reading.Goals as goal
 
 pub bounds-answer-1 : goal.bounds-answer-1

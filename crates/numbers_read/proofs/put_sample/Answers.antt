@@ -16,7 +16,6 @@ use Rattle.reader.specs.declared.lent.Reading.TheVariants.{Frame}
 use Rattle.numbers_read.specs.Read.{reading_numbers}
 use Rattle.numbers_read.proofs.Laws.{behind_length, behind_four}
 use Rattle.numbers_read.proofs.Counts.{at_most_16}
-use borrow.Author.Rules.{rules}
 use Rattle.numbers_read.proofs.put_sample.Goals as goal
 
 -- the numbers of a message, by the number of its device

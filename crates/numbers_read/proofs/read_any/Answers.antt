@@ -8,7 +8,6 @@ use Rattle.reader.specs.declared.opening.Opening.TheVariants as opening
 use Rattle.reader.specs.Opening.{inner, Opens}
 use Rattle.reader.proofs.Laws.Met.{read_refused}
 use Rattle.numbers_read.proofs.Plain.{read_to}
-use borrow.Author.Rules.{rules}
 use Rattle.numbers_read.proofs.read_any.Goals as goal
 
 pub read_opened-requires : goal.read_opened-requires

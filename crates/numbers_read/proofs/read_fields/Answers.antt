@@ -3,7 +3,6 @@
 use mathlib.Core.Path.{refl}
 use Rattle.reader.specs.declared.lent.Reading.TheVariants as reading
 use Rattle.numbers_read.proofs.Laws.{met_as}
-use borrow.Author.Rules.{rules}
 use Rattle.numbers_read.proofs.read_fields.Goals as goal
 
 pub returns-in-Frame : goal.returns-in-Frame

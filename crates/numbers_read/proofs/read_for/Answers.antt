@@ -2,7 +2,6 @@
 -- Assumes nothing.
 use Rattle.messages.specs.Messages.{read_of}
 use Rattle.numbers_read.proofs.Plain.{plain_to, other_to}
-use borrow.Author.Rules.{rules}
 use Rattle.numbers_read.proofs.read_for.Goals as goal
 
 pub returns-then-put_handshake : goal.returns-then-put_handshake

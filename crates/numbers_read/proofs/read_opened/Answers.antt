@@ -1,7 +1,6 @@
 -- `numbers_read::read_opened` meets its contract: with no lent space, or with it.
 -- Assumes nothing.
 use Rattle.numbers_read.proofs.Plain.{plain_to, other_to}
-use borrow.Author.Rules.{rules}
 use Rattle.numbers_read.proofs.read_opened.Goals as goal
 
 pub returns-then-put_plain : goal.returns-then-put_plain

@@ -3,10 +3,8 @@
 use mathlib.Core.Path.{sym, ap, ◌∙◌}
 use mathlib.Core.List.{[]}
 use Prim.Native.Nat.{ℕ}
-use borrow.Author.Tests.{ne_eqb}
 use Rattle.numbers_to_message.specs.Table.{find, by_first}
 use Rattle.numbers_to_message.specs.Fits.{fits_any}
-use borrow.Author.Rules.{rules}
 use Rattle.numbers_to_message.proofs.fits.Goals as goal
 
 pub returns-in-1 : goal.returns-in-1

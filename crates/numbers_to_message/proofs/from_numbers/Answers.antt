@@ -3,7 +3,7 @@
 use mathlib.Core.Path.{sym, ap, ◌∙◌}
 use mathlib.Core.Bool.{Bool}
 use Prim.Native.Nat.{ℕ}
-use borrow.Author.Tests.{lt-ltb, le-ltb, not-true, not-false}
+use borrow.Author.Tests.{lt-ltb, le-ltb}
 use lib.ListN.{get_or}
 use Rattle.numbers_to_message.specs.Types.{DeviceID}
 use Rattle.numbers_to_message.specs.declared.fit.NumberType.TheVariants.{Device}
@@ -12,7 +12,6 @@ use Rattle.numbers_to_message.specs.Values.{value}
 use Rattle.numbers_to_message.specs.Table.{rows_of, message_of_numbers}
 use Rattle.numbers_to_message.specs.Fits.{fit, taken, misfit, fits_any, first_message, message_if}
 use Rattle.numbers_to_message.proofs.Laws.{given_none, whole_is}
-use borrow.Author.Rules.{rules}
 use Rattle.numbers_to_message.proofs.from_numbers.Goals as goal
 
 pub returns-then-v-lt2 : goal.returns-then-v-lt2

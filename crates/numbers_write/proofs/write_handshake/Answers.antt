@@ -5,8 +5,6 @@ use mathlib.Core.List.{List}
 use Prim.Native.Nat.{ℕ}
 use native.Mathlib.Omega.{arith}
 use lib.ListN.{length}
-use borrow.Author.Tests.{not-true, not-false}
-use borrow.Author.Rules.{rules}
 use Rattle.messages.specs.Messages.{Answer}
 use Rattle.writer.specs.Write.{written_at, output_after}
 use Rattle.writer.proofs.Laws.Answers.{bytes_all}

@@ -1,8 +1,6 @@
 -- `numbers_write::write_header` meets its contract: the numbers are no header, or the header is written.
 -- Assumes nothing.
 use mathlib.Core.Path.{refl, sym, ◌∙◌}
-use borrow.Author.Tests.{not-true, not-false}
-use borrow.Author.Rules.{rules}
 use Rattle.numbers_write.proofs.Laws.{made_by, made_not, wrote, unwritten}
 use Rattle.numbers_write.proofs.write_header.Goals as goal
 

@@ -2,7 +2,6 @@
 -- Assumes nothing.
 use mathlib.Core.Path.{sym, ◌∙◌}
 use Rattle.numbers_write.proofs.Laws.{wrote, unwritten}
-use borrow.Author.Rules.{rules}
 use Rattle.numbers_write.proofs.write_made.Goals as goal
 
 pub returns-in-Frame : goal.returns-in-Frame

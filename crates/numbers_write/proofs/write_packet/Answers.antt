@@ -1,8 +1,6 @@
 -- `numbers_write::write_packet` meets its contract: the numbers are no packet, or the packet is written.
 -- Assumes nothing.
 use mathlib.Core.Path.{refl, sym, ◌∙◌}
-use borrow.Author.Tests.{not-true, not-false}
-use borrow.Author.Rules.{rules}
 use Rattle.numbers_write.proofs.Laws.{made_by, made_not, wrote, unwritten}
 use Rattle.numbers_write.proofs.write_packet.Goals as goal
 
@@ -15,7 +13,7 @@ returns-then-not-is_one_byte c =
     let v = c.args.numbers.now in
     let t = unwritten v c.args.text.now c.args.entries.now c.args.out.now c.args.place
     (made_not v (sym c.is_one_byte.ensures ∙ c.if-not-is_one_byte.true)) in
-    record { number = t.0; value = t.1.0; output = t.1.1; }
+    record { number = t.0; value = t.1.0; output = t.1.1 }
 
 pub returns : goal.returns
 returns c =
@@ -23,4 +21,4 @@ returns c =
     let e = sym c.is_one_byte.ensures ∙ c.if-not-is_one_byte.false in
     let t = wrote v c.args.text.now c.args.entries.now c.args.out.now c.args.place _ _ (made_by v 0x0200 c.requires e)
     _ _ _ refl (rw (c.device_at.ensures, c.u8_at.ensures) at c.write_packet-w.ensures.0) (rw (c.device_at.ensures, c.u8_at.ensures) at c.write_packet-w.ensures.1) in
-    record { number = c.told.ensures.0 ∙ t.0; value = c.told.ensures.1 ∙ t.1.0; output = t.1.1; }
+    record { number = c.told.ensures.0 ∙ t.0; value = c.told.ensures.1 ∙ t.1.0; output = t.1.1 }

@@ -1,8 +1,6 @@
 -- `numbers_write::write_scale_dump_2` meets its contract: the numbers are no scale dump, or the scale dump is written.
 -- Assumes nothing.
 use mathlib.Core.Path.{refl, sym, ◌∙◌}
-use borrow.Author.Tests.{not-true, not-false}
-use borrow.Author.Rules.{rules}
 use Rattle.numbers_write.proofs.Laws.{made_by, made_not, wrote, unwritten}
 use Rattle.numbers_write.proofs.write_scale_dump_2.Goals as goal
 

@@ -3,21 +3,20 @@
 use mathlib.Core.Path.{sym, ◌∙◌}
 use borrow.Author.Tests.{lt-ltb}
 use Rattle.pasoreum.proofs.Laws.{replied, unreplied}
-use borrow.Author.Rules.{rules}
 use Rattle.pasoreum.proofs.pasoreum_identity.Goals as goal
 
 pub returns-then-answer-lt9 : goal.returns-then-answer-lt9
 returns-then-answer-lt9 c = let t = lt-ltb _ _ c.if-answer-lt9.true in
-    record { number = rw t; output = rw t; }
+    record { number = rw t; output = rw t }
 
 pub returns-in-Reply : goal.returns-in-Reply
 returns-in-Reply c =
     let e = sym c.in-Reply.is ∙ c.from_midi.ensures in
     let t = replied c.args.bytes.now c.args.answer.now _ _ _ c.if-answer-lt9.false e c.put_reply.ensures in
-    record { number = t.0; output = t.1; }
+    record { number = t.0; output = t.1 }
 
 pub returns-in-Refused : goal.returns-in-Refused
 returns-in-Refused c =
     let e = sym c.in-Refused.is ∙ c.from_midi.ensures in
     let t = unreplied c.args.bytes.now c.args.answer.now _ _ c.if-answer-lt9.false e c.number.ensures in
-    record { number = t.0; output = t.1; }
+    record { number = t.0; output = t.1 }

@@ -3,7 +3,6 @@
 use mathlib.Core.Path.{refl, sym, ◌∙◌}
 use borrow.Author.Tests.{lt-ltb, le-ltb}
 use Rattle.pasoreum.proofs.Laws.{read_as, kept}
-use borrow.Author.Rules.{rules}
 use Rattle.pasoreum.proofs.pasoreum_read.Goals as goal
 
 pub returns-then-answer-lt20 : goal.returns-then-answer-lt20

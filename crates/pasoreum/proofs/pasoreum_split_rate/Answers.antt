@@ -3,7 +3,6 @@
 use mathlib.Core.Path.{sym, ap, ◌∙◌}
 use Rattle.rates.specs.declared.SplitAnswer.{SplitAnswer}
 use Rattle.rates.specs.Rate.{numbers_of}
-use borrow.Author.Rules.{rules}
 use Rattle.pasoreum.proofs.pasoreum_split_rate.Goals as goal
 
 pub returns-in-Pair : goal.returns-in-Pair

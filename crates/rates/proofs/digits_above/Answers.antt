@@ -1,6 +1,5 @@
 -- `rates::digits_above` meets its contract: it shifts by fewer than 64 places, or all or none of the digits are cut.
 -- Assumes nothing.
-use borrow.Author.Rules.{rules}
 use Rattle.rates.proofs.Bits.{all_cut, none_cut}
 use Rattle.rates.proofs.digits_above.Goals as goal
 

@@ -1,6 +1,5 @@
 -- `rates::join_rate` meets its contract: its sum is the pair's number of 2^28ths, rounded once.
 -- Assumes nothing.
-use borrow.Author.Rules.{rules}
 use mathlib.Core.Path.{◌∙◌}
 use lib.Ieee.{of_bits}
 use Rattle.rates.proofs.Join.{one_rounding, joined}

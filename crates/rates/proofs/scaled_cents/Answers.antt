@@ -1,6 +1,5 @@
 -- `rates::scaled_cents` meets its contract: it divides and multiplies what `hold_cents` returns.
 -- Assumes nothing.
-use borrow.Author.Rules.{rules}
 use mathlib.Core.Path.{ap}
 use lib.Ieee.{Float, binary32, mul, div, of_bits}
 use Rattle.rates.specs.Cents.{hundred, full, scaled_of}

@@ -1,6 +1,5 @@
 -- `rates::split_rate` meets its contract: the two tests pick the definition's case, and between them the digits of the rate and of the rest are its parts.
 -- Assumes nothing.
-use borrow.Author.Rules.{rules}
 use mathlib.Core.Path.{◌≡◌, sym, ap, ◌∙◌, subst}
 use Prim.Native.Nat.{ℕ, ◌^◌, ◌<◌}
 use native.Mathlib.Nat.{le_of_lt, lt_of_lt_of_le}

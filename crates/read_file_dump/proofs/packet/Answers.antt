@@ -4,7 +4,6 @@ use mathlib.Core.Path.{◌≡◌, sym, ap, ◌∙◌}
 use Prim.Native.Nat.{ℕ, ◌+◌, ◌/◌}
 use native.Mathlib.Omega.{arith}
 use lib.ListN.{length, drop, get_or}
-use borrow.Author.Rules.{rules}
 use Rattle.util.proofs.Laws.Splice.{tail_drop}
 use Rattle.util.proofs.Laws.Groups.{seven_drop}
 use Rattle.messages.specs.declared.head.Head.TheVariants as head

@@ -1,17 +1,10 @@
 -- `read_file_dump::put_data` meets its contract. The invariant: the data of the bytes that are left, put on what is there, gives what all give.
 -- Assumes nothing.
-use mathlib.Core.List.{List}
-use mathlib.Core.Path.{◌≡◌, refl, sym, ap, ◌∙◌}
-use Prim.Native.Nat.{ℕ, ◌+◌, ◌-◌, ◌^◌, ◌≤◌, ◌<◌}
-use native.Mathlib.Omega.{arith}
-use native.Mathlib.Nat.{zero-add}
-use lib.ListN.{length, take, drop, length-append}
-use borrow.Author.Rules.{rules}
-use Rattle.util.proofs.Laws.Splice.{item_turn, part_put, tail_drop, tail_room}
-use Rattle.util.proofs.Laws.Groups.{seven_take, seven_drop}
+use mathlib.Core.Path.{◌≡◌}
+use Prim.Native.Nat.{◌+◌, ◌-◌, ◌≤◌}
+use lib.ListN.{length}
 use Rattle.util.specs.Splice.{splice}
-use Rattle.read_places.specs.Places.{data_from, data_at}
-use Rattle.read_file_dump.proofs.Laws.Packed.{group_size, group_length, group_turn}
+use Rattle.read_places.specs.Places.{data_at}
 use Rattle.read_file_dump.proofs.put_data.Given as goal
 
 abbrev pub invariant-loop-i : goal.invariant-loop-i

@@ -2,7 +2,6 @@
 -- Assumes nothing.
 use mathlib.Core.Path.{◌∙◌}
 use native.Mathlib.Omega.{arith}
-use borrow.Author.Rules.{rules}
 use Rattle.messages.specs.declared.head.Head.TheVariants as head
 use Rattle.read_places.proofs.Laws.Answers.{reads_none}
 use Rattle.read_file_dump.proofs.Laws.Fields.{request_not, request_found}

@@ -1,6 +1,5 @@
 -- `read_file_reference::close` meets its contract: a length and two bytes of 00.
 -- Assumes nothing.
-use borrow.Author.Rules.{rules}
 use mathlib.Core.Path.{refl, sym, ap, ◌∙◌}
 use native.Mathlib.Omega.{arith}
 use Rattle.messages.specs.declared.head.Head.TheVariants as head

@@ -1,6 +1,5 @@
 -- `read_file_reference::map_for` meets its contract, type by type.
 -- Assumes nothing.
-use borrow.Author.Rules.{rules}
 use Rattle.read_file_reference.proofs.map_for.Goals as goal
 
 pub returns-in-DLS : goal.returns-in-DLS

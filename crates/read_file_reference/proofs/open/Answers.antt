@@ -1,6 +1,5 @@
 -- `read_file_reference::open` meets its contract, by the length and the type.
 -- Assumes nothing.
-use borrow.Author.Rules.{rules}
 use mathlib.Core.Path.{sym, ap, ◌∙◌}
 use native.Mathlib.Omega.{arith}
 use lib.ListN.{drop}

@@ -1,6 +1,5 @@
 -- `read_file_reference::open_select_typed` meets its contract: the map follows the URL.
 -- Assumes nothing.
-use borrow.Author.Rules.{rules}
 use mathlib.Core.Path.{subst}
 use Prim.Native.Nat.{◌+◌, ◌-◌}
 use native.Mathlib.Omega.{arith}

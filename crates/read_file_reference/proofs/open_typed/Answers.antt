@@ -1,6 +1,5 @@
 -- `read_file_reference::open_typed` meets its contract: the URL ends the fields.
 -- Assumes nothing.
-use borrow.Author.Rules.{rules}
 use Prim.Native.Nat.{◌-◌}
 use native.Mathlib.Omega.{arith}
 use Rattle.messages.specs.declared.head.Head.TheVariants as head

@@ -1,6 +1,5 @@
 -- `read_file_reference::put_maps` meets its contract: the maps of a part of the fields.
 -- Assumes nothing.
-use borrow.Author.Rules.{rules}
 use mathlib.Core.Path.{ap, ◌∙◌}
 use mathlib.Core.List.{List}
 use Prim.Native.Nat.{ℕ}

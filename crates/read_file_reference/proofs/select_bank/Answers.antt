@@ -1,6 +1,5 @@
 -- `read_file_reference::select_bank` meets its contract.
 -- Assumes nothing.
-use borrow.Author.Rules.{rules}
 use Rattle.messages.specs.declared.head.Head.TheVariants as head
 use Rattle.messages.specs.Maps.{bank_length, bank_select, bank_short}
 use Rattle.read_places.proofs.Laws.Answers.{reads_none}

@@ -1,6 +1,5 @@
 -- `read_file_reference::select_of` meets its contract, by the map found and the length said.
 -- Assumes nothing.
-use borrow.Author.Rules.{rules}
 use mathlib.Core.Path.{sym, subst, ◌∙◌}
 use Rattle.messages.specs.declared.head.Head.TheVariants as head
 use Rattle.messages.specs.Maps.{bank_only, wav_only}

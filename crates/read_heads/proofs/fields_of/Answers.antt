@@ -1,6 +1,5 @@
 -- `read_heads::fields_of` meets its contract, head by head.
 -- Assumes nothing.
-use borrow.Author.Rules.{rules}
 use Rattle.read_heads.proofs.fields_of.Goals as goal
 
 pub returns-in-SampleDumpHeader : goal.returns-in-SampleDumpHeader

@@ -6,7 +6,6 @@ use Prim.Native.Nat.{ℕ}
 use Rattle.messages.specs.declared.head.Head.{Head}
 use Rattle.messages.specs.Layouts.{form}
 use Rattle.read_places.specs.Found.{is_read}
-use borrow.Author.Rules.{rules}
 use Rattle.read_heads.proofs.is_valid.Goals as goal
 
 read_as : {h g : Head} → h ≡ g → (f : List ℕ) → is_read ((form g).read f) ≡ is_read ((form h).read f)

@@ -4,7 +4,6 @@ use mathlib.Core.Path.{subst}
 use Rattle.read_places.specs.declared.Found.{Found}
 use Rattle.read_places.specs.Found.{Reads}
 use Rattle.read_places.proofs.Laws.Answers.{reads_is, reads_not}
-use borrow.Author.Rules.{rules}
 use Rattle.read_heads.proofs.says.Goals as goal
 
 pub returns-in-Is : goal.returns-in-Is

@@ -6,7 +6,6 @@ use Rattle.messages.specs.declared.head.Head.TheVariants as head
 use Rattle.read_places.proofs.Laws.Answers.{reads_none}
 use Rattle.read_places.specs.Places.{value_at}
 use Rattle.read_system_exclusive.proofs.Laws.{reads_numbers, number_reads, number_not}
-use borrow.Author.Rules.{rules}
 use Rattle.read_system_exclusive.proofs.ack.Goals as goal
 
 pub returns-then-f-ne1 : goal.returns-then-f-ne1

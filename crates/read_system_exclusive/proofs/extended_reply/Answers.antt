@@ -10,7 +10,6 @@ use Rattle.read_places.specs.Places.{value_at}
 use Rattle.messages.specs.Structures.{reply}
 use Rattle.read_system_exclusive.specs.Replies.{after_maker_at}
 use Rattle.read_system_exclusive.proofs.Laws.{reads_numbers, extended_reads, one_byte_size, extended_maker_not, reply_not}
-use borrow.Author.Rules.{rules}
 use Rattle.read_system_exclusive.proofs.extended_reply.Goals as goal
 
 pub returns-then-f-ne0 : goal.returns-then-f-ne0

@@ -6,7 +6,6 @@ use Rattle.messages.specs.declared.system_exclusive.UniversalNonRealTimeMsg.TheV
 use Rattle.messages.specs.declared.head.Head.TheVariants as head
 use Rattle.read_places.proofs.Laws.Answers.{reads_none}
 use Rattle.read_system_exclusive.proofs.Laws.{reads_numbers, nothing_reads, nothing_not}
-use borrow.Author.Rules.{rules}
 use Rattle.read_system_exclusive.proofs.general_midi_off.Goals as goal
 
 pub returns-then-f-ne0 : goal.returns-then-f-ne0

@@ -3,7 +3,6 @@
 use Rattle.messages.specs.declared.head.Head.TheVariants as head
 use Rattle.read_places.proofs.Laws.Answers.{reads_none}
 use Rattle.read_system_exclusive.proofs.Laws.{one_byte_size, extended_size, reply_not}
-use borrow.Author.Rules.{rules}
 use Rattle.read_system_exclusive.proofs.identity_reply.Goals as goal
 
 pub returns : goal.returns

@@ -1,7 +1,6 @@
 -- `read_system_exclusive::is_zero` meets its contract: another length, or the byte.
 -- Assumes nothing.
 use Rattle.read_system_exclusive.proofs.Laws.{one_zero_size, one_zero_get}
-use borrow.Author.Rules.{rules}
 use Rattle.read_system_exclusive.proofs.is_zero.Goals as goal
 
 pub returns-then-f-ne1 : goal.returns-then-f-ne1

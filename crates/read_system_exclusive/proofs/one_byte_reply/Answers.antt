@@ -10,7 +10,6 @@ use Rattle.read_places.proofs.Laws.Answers.{reads_none}
 use Rattle.messages.specs.Structures.{reply}
 use Rattle.read_system_exclusive.specs.Replies.{after_maker_at}
 use Rattle.read_system_exclusive.proofs.Laws.{reads_numbers, one_byte_reads, one_byte_maker_not, extended_size, reply_not}
-use borrow.Author.Rules.{rules}
 use Rattle.read_system_exclusive.proofs.one_byte_reply.Goals as goal
 
 pub returns-then-maker-lt1 : goal.returns-then-maker-lt1

@@ -1,6 +1,5 @@
 -- `read_system_exclusive::reply_of` meets its contract: each number is the one at its place.
 -- Assumes nothing.
-use borrow.Author.Rules.{rules}
 use Rattle.read_system_exclusive.proofs.reply_of.Goals as goal
 
 pub returns : goal.returns

@@ -5,7 +5,6 @@ use Rattle.messages.specs.declared.system_exclusive.UniversalNonRealTimeMsg.TheV
 use Rattle.messages.specs.declared.head.Head.TheVariants as head
 use Rattle.read_places.proofs.Laws.Answers.{reads_none}
 use Rattle.read_system_exclusive.proofs.Laws.{reads_numbers, zero_reads, zero_not}
-use borrow.Author.Rules.{rules}
 use Rattle.read_system_exclusive.proofs.wait.Goals as goal
 
 pub returns-then-is_zero : goal.returns-then-is_zero

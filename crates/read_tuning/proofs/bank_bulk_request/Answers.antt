@@ -6,7 +6,6 @@ use Rattle.messages.specs.declared.head.Head.TheVariants as head
 use Rattle.messages.specs.Messages.{plain_answer}
 use Rattle.read_places.proofs.Laws.Answers.{reads_none}
 use Rattle.read_tuning.proofs.Laws.Heads.{bank_bulk_size, bank_bulk_reads}
-use borrow.Author.Rules.{rules}
 use Rattle.read_tuning.proofs.bank_bulk_request.Goals as goal
 
 pub returns-then-f-ne2 : goal.returns-then-f-ne2

@@ -3,7 +3,6 @@
 use Prim.Native.Nat.{◌<◌}
 use native.Mathlib.Omega.{arith}
 use Rattle.read_places.proofs.Laws.Numbers.{value_get, seven_get}
-use borrow.Author.Rules.{rules}
 use Rattle.read_tuning.proofs.channels_at.Goals as goal
 
 pub channels_of-requires : goal.channels_of-requires

@@ -6,7 +6,6 @@ use Rattle.messages.specs.declared.head.Head.TheVariants as head
 use Rattle.messages.specs.Messages.{plain_answer}
 use Rattle.read_places.proofs.Laws.Answers.{reads_none}
 use Rattle.read_tuning.proofs.Laws.Heads.{keys_size, keys_read}
-use borrow.Author.Rules.{rules}
 use Rattle.read_tuning.proofs.key_dump.Goals as goal
 
 pub returns-then-f-ne401 : goal.returns-then-f-ne401

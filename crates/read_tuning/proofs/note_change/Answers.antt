@@ -11,7 +11,6 @@ use Rattle.read_tuning.proofs.Laws.Heads.{changes_not, changes_read}
 use Rattle.read_places.proofs.Laws.Numbers.{seven_get, value_get}
 use Rattle.messages.specs.Entries.{change_entry}
 use Rattle.read_places.specs.Places.{value_at, change_at}
-use borrow.Author.Rules.{rules}
 use Rattle.read_tuning.proofs.note_change.Goals as goal
 
 pub returns-then-f-lt3 : goal.returns-then-f-lt3

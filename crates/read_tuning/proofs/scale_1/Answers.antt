@@ -6,7 +6,6 @@ use Rattle.messages.specs.declared.head.Head.TheVariants as head
 use Rattle.messages.specs.Messages.{plain_answer}
 use Rattle.read_places.proofs.Laws.Answers.{reads_none}
 use Rattle.read_tuning.proofs.Laws.ChannelScales.{scale_1_size, scale_1_read, scale_1_spare}
-use borrow.Author.Rules.{rules}
 use Rattle.read_tuning.proofs.scale_1.Goals as goal
 
 pub returns-then-f-ne15 : goal.returns-then-f-ne15

@@ -6,7 +6,6 @@ use Rattle.messages.specs.declared.head.Head.TheVariants as head
 use Rattle.messages.specs.Messages.{plain_answer}
 use Rattle.read_places.proofs.Laws.Answers.{reads_none}
 use Rattle.read_tuning.proofs.Laws.ChannelScales.{scale_2_size, scale_2_read, scale_2_spare}
-use borrow.Author.Rules.{rules}
 use Rattle.read_tuning.proofs.scale_2.Goals as goal
 
 pub returns-then-f-ne27 : goal.returns-then-f-ne27

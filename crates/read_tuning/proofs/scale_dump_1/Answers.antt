@@ -6,7 +6,6 @@ use Rattle.messages.specs.declared.head.Head.TheVariants as head
 use Rattle.messages.specs.Messages.{plain_answer}
 use Rattle.read_places.proofs.Laws.Answers.{reads_none}
 use Rattle.read_tuning.proofs.Laws.Heads.{scale_dump_1_size, scale_dump_1_reads}
-use borrow.Author.Rules.{rules}
 use Rattle.read_tuning.proofs.scale_dump_1.Goals as goal
 
 pub returns-then-f-ne30 : goal.returns-then-f-ne30

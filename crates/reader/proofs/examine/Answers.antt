@@ -11,7 +11,6 @@ use Rattle.reader.specs.declared.opening.Opening.TheVariants as opening
 use Rattle.reader.specs.Opening.{inner, Opens}
 use Rattle.reader.specs.Reading.{Tells}
 use Rattle.reader.proofs.Laws.Met.{told_refused}
-use borrow.Author.Rules.{rules}
 use Rattle.reader.proofs.examine.Goals as goal
 
 pub examine_fields-requires : goal.examine_fields-requires

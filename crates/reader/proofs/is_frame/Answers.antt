@@ -5,7 +5,6 @@ use Rattle.messages.specs.Messages.{read_of}
 use Rattle.reader.specs.Reading.{Tells}
 use Rattle.reader.specs.declared.lent.Reading.{Reading}
 use Rattle.reader.proofs.Laws.Shape.{frame_is}
-use borrow.Author.Rules.{rules}
 use Rattle.reader.proofs.is_frame.Goals as goal
 
 pub returns-in-Frame : goal.returns-in-Frame

@@ -7,7 +7,6 @@ use lib.ListN.{length, drop, length-take, length-drop}
 use lib.Seq.{get_or-take, get_or-drop}
 use Rattle.messages.proofs.Exact.{inside_shaped}
 use Rattle.reader.proofs.Laws.Shape.{read_of_frame, frame_is}
-use borrow.Author.Rules.{rules}
 use Rattle.reader.proofs.is_frame_shaped.Goals as goal
 
 pub overflow_sub-e : goal.overflow_sub-e

@@ -4,7 +4,6 @@ use mathlib.Core.Path.{sym, ◌∙◌}
 use Rattle.util.proofs.Laws.Groups.{seven_true}
 use Rattle.reader.specs.Opening.{inner}
 use Rattle.reader.proofs.Laws.Shape.{short_none, first_none, last_none, high_none, inside_is, read_of_frame}
-use borrow.Author.Rules.{rules}
 use Rattle.reader.proofs.opening_in.Goals as goal
 
 pub returns-then-frame-lt6 : goal.returns-then-frame-lt6

@@ -6,7 +6,6 @@ use lib.ListN.{length, drop, length-take, length-drop}
 use Rattle.messages.proofs.Exact.{inside_shaped}
 use Rattle.reader.proofs.Laws.Opening.{opens_with}
 use Rattle.reader.proofs.Laws.Shape.{read_of_frame}
-use borrow.Author.Rules.{rules}
 use Rattle.reader.proofs.opening_shaped.Goals as goal
 
 pub overflow_sub-e : goal.overflow_sub-e

@@ -11,7 +11,6 @@ use Rattle.reader.specs.declared.opening.Opening.TheVariants as opening
 use Rattle.reader.specs.Opening.{inner, Opens}
 use Rattle.reader.specs.Reading.{ReadMet}
 use Rattle.reader.proofs.Laws.Met.{read_refused}
-use borrow.Author.Rules.{rules}
 use Rattle.reader.proofs.read.Goals as goal
 
 pub read_fields-requires : goal.read_fields-requires

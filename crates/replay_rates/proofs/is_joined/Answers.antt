@@ -1,6 +1,5 @@
 -- `replay_rates::is_joined` is safe: a rate that is below a number is no NaN.
 -- Assumes nothing.
-use borrow.Author.Rules.{rules}
 use Rattle.replay_rates.proofs.Numbers.{less_number}
 use Rattle.replay_rates.proofs.is_joined.Goals as goal
 

@@ -1,7 +1,6 @@
 -- `replay_rates::single` is safe: the bits that it takes are no NaN's.
 -- Assumes nothing.
 use lib.Ieee.{binary32}
-use borrow.Author.Rules.{rules}
 use Rattle.replay_rates.proofs.Numbers.{not_nan}
 use Rattle.replay_rates.proofs.single.Goals as goal
 

@@ -1,6 +1,5 @@
 -- `write_fronts::front_size` meets its contract, message by message.
 -- Assumes nothing.
-use borrow.Author.Rules.{rules}
 use Rattle.write_fronts.proofs.front_size.Goals as goal
 
 pub returns-in-SampleDump : goal.returns-in-SampleDump

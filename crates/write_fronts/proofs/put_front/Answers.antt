@@ -1,6 +1,5 @@
 -- `write_fronts::put_front` meets its contract, message by message.
 -- Assumes nothing.
-use borrow.Author.Rules.{rules}
 use Rattle.write_fronts.proofs.put_front.Goals as goal
 
 pub put-requires : goal.put-requires

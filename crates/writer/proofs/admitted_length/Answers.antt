@@ -1,6 +1,5 @@
 -- `writer::admitted_length` meets its contract: the sizes add up to the frame.
 -- Assumes nothing.
-use borrow.Author.Rules.{rules}
 use Rattle.writer.proofs.Laws.Sums.{total_is}
 use Rattle.writer.proofs.admitted_length.Goals as goal
 

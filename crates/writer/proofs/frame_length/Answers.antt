@@ -2,7 +2,6 @@
 -- Assumes nothing.
 use mathlib.Core.Path.{sym, ap, ◌∙◌}
 use native.Mathlib.Omega.{arith}
-use borrow.Author.Rules.{rules}
 use Rattle.writer.specs.declared.Length.TheVariants.{Bytes}
 use Rattle.writer.proofs.Laws.Whole.{channels_fit}
 use Rattle.writer.proofs.Laws.Answers.{told_none, told_some, bytes_all, write_frame, write_refused}

@@ -1,7 +1,6 @@
 -- `writer::has_sum` meets its contract, message by message.
 -- Assumes nothing.
 use mathlib.Core.Path.{sym}
-use borrow.Author.Rules.{rules}
 use Rattle.writer.proofs.Laws.Sums.{extended_sum, request_sum, keys_sum, midi_sum, reference_sum}
 use Rattle.writer.proofs.has_sum.Goals as goal
 

@@ -4,7 +4,6 @@ use mathlib.Core.List.{List, ◌++◌}
 use mathlib.Core.Path.{◌≡◌, ap, ◌∙◌}
 use Prim.Native.Nat.{ℕ}
 use lib.ListN.{length}
-use borrow.Author.Rules.{rules}
 use Rattle.util.specs.Splice.{overwritten}
 use Rattle.write_fronts.specs.Fronts.{front_of}
 use Rattle.write_lists.specs.Parts.{part_of}

@@ -2,7 +2,6 @@
 -- Assumes nothing.
 use mathlib.Core.Path.{refl, sym, ap, ◌∙◌}
 use lib.ListN.{set}
-use borrow.Author.Rules.{rules}
 use Rattle.util.proofs.Laws.Splice.{splice_none, set_splice}
 use Rattle.writer.proofs.put_sum.Goals as goal
 

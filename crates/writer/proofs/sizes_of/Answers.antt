@@ -2,7 +2,6 @@
 -- Assumes nothing.
 use mathlib.Core.Path.{sym, ◌∙◌}
 use native.Mathlib.Omega.{arith}
-use borrow.Author.Rules.{rules}
 use Rattle.write_fronts.proofs.Laws.{front_small}
 use Rattle.write_lists.proofs.Laws.Sizes.{length_part}
 use Rattle.writer.proofs.Laws.Lengths.{part_small}

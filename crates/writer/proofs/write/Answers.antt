@@ -2,7 +2,6 @@
 -- Assumes nothing.
 use mathlib.Core.Path.{sym, ◌∙◌}
 use native.Mathlib.Omega.{arith}
-use borrow.Author.Rules.{rules}
 use Rattle.writer.proofs.Laws.Answers.{bytes_all}
 use Rattle.writer.proofs.Laws.Handshakes.{handshake_written}
 use Rattle.writer.proofs.write.Goals as goal

@@ -5,7 +5,6 @@ use mathlib.Core.Path.{◌≡◌, sym}
 use Prim.Native.Nat.{ℕ}
 use native.Mathlib.Omega.{arith}
 use lib.ListN.{length}
-use borrow.Author.Rules.{rules}
 use Rattle.util.proofs.Laws.Splice.{tail_room, part_put}
 use Rattle.writer.specs.Frames.{frame_of}
 use Rattle.writer.proofs.Laws.Sums.{total_is}

@@ -1,5 +1,4 @@
 -- `messages::file_dump::type_letters` meets its contract: each file type has its four letters.
-use borrow.Author.Rules.{rules}
 use Rattle.messages.proofs.file_dump.type_letters.Goals as goal
 
 pub returns-in-MIDI : goal.returns-in-MIDI

@@ -1,5 +1,4 @@
 -- `messages::file_reference::reference_letters` meets its contract: each file reference type has its four letters.
-use borrow.Author.Rules.{rules}
 use Rattle.messages.proofs.file_reference.reference_letters.Goals as goal
 
 pub returns-in-DLS : goal.returns-in-DLS

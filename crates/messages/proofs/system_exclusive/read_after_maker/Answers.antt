@@ -7,7 +7,6 @@ use native.Mathlib.Omega.{arith}
 use lib.ListN.{length, take, drop}
 use borrow.Author.Tests.{lt-ltb, le-ltb}
 use Rattle.util.specs.Groups.{seven}
-use borrow.Author.Rules.{rules}
 use Rattle.messages.proofs.system_exclusive.read_after_maker.Goals as goal
 
 pub returns-then-m-i : goal.returns-then-m-i

@@ -3,7 +3,6 @@
 use native.Mathlib.Omega.{arith}
 use lib.ListN.{length, get_or}
 use borrow.Author.Tests.{lt-ltb, le-ltb, eq-eqb, ne_eqb}
-use borrow.Author.Rules.{rules}
 use Rattle.messages.proofs.system_exclusive.read_maker.Goals as goal
 
 pub returns-then-m-lt3 : goal.returns-then-m-lt3

@@ -1,6 +1,5 @@
 -- `messages::system_exclusive::reply_from` meets its contract: each number is the one at its place.
 -- Assumes nothing.
-use borrow.Author.Rules.{rules}
 use Rattle.messages.proofs.system_exclusive.reply_from.Goals as goal
 
 pub returns : goal.returns

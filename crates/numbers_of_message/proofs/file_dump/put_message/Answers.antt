@@ -1,6 +1,5 @@
 -- `numbers_of_message::file_dump::put_message` meets its contract, message by message.
 -- Assumes nothing.
-use borrow.Author.Rules.{rules}
 use Rattle.numbers_of_message.proofs.file_dump.put_message.Goals as goal
 
 pub returns-in-Header : goal.returns-in-Header

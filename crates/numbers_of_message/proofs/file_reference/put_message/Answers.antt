@@ -1,6 +1,5 @@
 -- `numbers_of_message::file_reference::put_message` meets its contract, message by message.
 -- Assumes nothing.
-use borrow.Author.Rules.{rules}
 use Rattle.numbers_of_message.proofs.file_reference.put_message.Goals as goal
 
 pub returns-in-Open : goal.returns-in-Open

@@ -1,6 +1,5 @@
 -- `numbers_of_message::file_reference::put_open_select` meets its contract: the numbers of the map come after the context and the type.
 -- Assumes nothing.
-use borrow.Author.Rules.{rules}
 use Rattle.numbers_of_message.proofs.file_reference.put_open_select.Goals as goal
 
 pub returns : goal.returns

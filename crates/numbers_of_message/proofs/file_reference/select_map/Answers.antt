@@ -1,6 +1,5 @@
 -- `numbers_of_message::file_reference::select_map` meets its contract: each form has its ten numbers.
 -- Assumes nothing.
-use borrow.Author.Rules.{rules}
 use Rattle.numbers_of_message.proofs.file_reference.select_map.Goals as goal
 
 pub returns-in-SoundFile : goal.returns-in-SoundFile

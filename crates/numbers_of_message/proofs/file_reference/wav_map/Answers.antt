@@ -2,7 +2,6 @@
 -- Assumes nothing.
 use mir.Syntax.{w16}
 use Rattle.numbers_of_message.proofs.Laws.{signed_read}
-use borrow.Author.Rules.{rules}
 use Rattle.numbers_of_message.proofs.file_reference.wav_map.Goals as goal
 
 pub returns : goal.returns

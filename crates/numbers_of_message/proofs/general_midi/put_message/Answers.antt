@@ -1,6 +1,5 @@
 -- `numbers_of_message::general_midi::put_message` meets its contract, message by message.
 -- Assumes nothing.
-use borrow.Author.Rules.{rules}
 use Rattle.numbers_of_message.proofs.general_midi.put_message.Goals as goal
 
 pub returns-in-GM1 : goal.returns-in-GM1

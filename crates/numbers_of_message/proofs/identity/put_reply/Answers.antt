@@ -1,6 +1,5 @@
 -- `numbers_of_message::identity::put_reply` meets its contract, message by message.
 -- Assumes nothing.
-use borrow.Author.Rules.{rules}
 use Rattle.numbers_of_message.proofs.identity.put_reply.Goals as goal
 
 pub returns-in-OneByte : goal.returns-in-OneByte

@@ -1,11 +1,9 @@
 -- `numbers_of_message::put::copy` meets its contract. The invariant: the stores that are left, made on what is there, give what all stores give.
 -- Assumes nothing.
-use borrow.Author.Rules.{rules}
-use mathlib.Core.Path.{◌≡◌, refl, ◌∙◌}
+use mathlib.Core.Path.{◌≡◌}
 use Prim.Native.Nat.{◌≤◌, ◌-◌}
-use lib.ListN.{length, drop, length-set}
+use lib.ListN.{length, drop}
 use lib.Seq.{sets}
-use Rattle.util.proofs.Laws.Splice.{store_turn, store_done}
 use Rattle.numbers_of_message.proofs.put.copy.Given as goal
 
 abbrev pub invariant-loop-i : goal.invariant-loop-i

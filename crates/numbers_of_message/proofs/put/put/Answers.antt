@@ -2,7 +2,6 @@
 -- Assumes nothing.
 use mathlib.Core.Path.{refl}
 use borrow.Author.Tests.{lt-leb, le-leb}
-use borrow.Author.Rules.{rules}
 use Rattle.numbers_of_message.proofs.put.put.Goals as goal
 
 pub returns-then-out-count : goal.returns-then-out-count

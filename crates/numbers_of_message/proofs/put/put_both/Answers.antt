@@ -6,7 +6,6 @@ use lib.ListN.{length, length-append}
 use borrow.Author.Tests.{lt-leb, le-leb}
 use Rattle.util.proofs.Laws.Splice.{Run, run_part}
 use Rattle.numbers_of_message.proofs.Laws.{lt_as, le_as}
-use borrow.Author.Rules.{rules}
 use Rattle.numbers_of_message.proofs.put.put_both.Goals as goal
 
 pub returns-then-out-n : goal.returns-then-out-n

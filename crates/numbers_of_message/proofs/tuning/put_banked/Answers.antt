@@ -1,6 +1,5 @@
 -- `numbers_of_message::tuning::put_banked` meets its contract, message by message.
 -- Assumes nothing.
-use borrow.Author.Rules.{rules}
 use Rattle.numbers_of_message.proofs.tuning.put_banked.Goals as goal
 
 pub returns-in-NoBank : goal.returns-in-NoBank

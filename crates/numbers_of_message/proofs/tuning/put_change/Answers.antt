@@ -1,6 +1,5 @@
 -- `numbers_of_message::tuning::put_change` meets its contract: the bank is a number.
 -- Assumes nothing.
-use borrow.Author.Rules.{rules}
 use Rattle.numbers_of_message.proofs.tuning.put_change.Goals as goal
 
 pub returns : goal.returns

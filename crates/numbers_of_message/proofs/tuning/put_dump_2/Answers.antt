@@ -1,6 +1,5 @@
 -- `numbers_of_message::tuning::put_dump_2` meets its contract: the numbers of the scale come after the bank and the program.
 -- Assumes nothing.
-use borrow.Author.Rules.{rules}
 use Rattle.numbers_of_message.proofs.tuning.put_dump_2.Goals as goal
 
 pub returns : goal.returns

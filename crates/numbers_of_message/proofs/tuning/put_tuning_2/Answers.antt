@@ -1,6 +1,5 @@
 -- `numbers_of_message::tuning::put_tuning_2` meets its contract: the numbers of the scale come after the channels.
 -- Assumes nothing.
-use borrow.Author.Rules.{rules}
 use Rattle.numbers_of_message.proofs.tuning.put_tuning_2.Goals as goal
 
 pub returns : goal.returns

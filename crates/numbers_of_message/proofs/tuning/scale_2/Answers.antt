@@ -3,7 +3,6 @@
 use mathlib.Core.List.{[], ◌∷◌}
 use mir.Syntax.{w16}
 use Rattle.numbers_of_message.proofs.Laws.{signed_read}
-use borrow.Author.Rules.{rules}
 use Rattle.numbers_of_message.proofs.tuning.scale_2.Goals as goal
 
 pub returns : goal.returns

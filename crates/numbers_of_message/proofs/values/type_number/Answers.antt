@@ -3,7 +3,6 @@
 use mathlib.Core.Path.{ap}
 use Prim.Native.Nat.{◌+◌, ◌*◌}
 use Rattle.messages.specs.Fields.{Four}
-use borrow.Author.Rules.{rules}
 use Rattle.numbers_of_message.proofs.values.type_number.Goals as goal
 
 pub returns : goal.returns

@@ -1,7 +1,5 @@
 -- `numbers_to_message::extended_sample_dump::message` meets its contract: each arm is that of its head code.
 -- Assumes nothing.
-use borrow.Author.Tests.{ne_eqb}
-use borrow.Author.Rules.{rules}
 use Rattle.numbers_to_message.proofs.extended_sample_dump.message.Goals as goal
 
 pub returns-in-1281 : goal.returns-in-1281

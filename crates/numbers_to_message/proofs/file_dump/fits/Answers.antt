@@ -1,7 +1,5 @@
 -- `numbers_to_message::file_dump::fits` meets its contract: each arm is that of its head code.
 -- Assumes nothing.
-use borrow.Author.Tests.{ne_eqb}
-use borrow.Author.Rules.{rules}
 use Rattle.numbers_to_message.proofs.file_dump.fits.Goals as goal
 
 pub returns-in-1793 : goal.returns-in-1793

@@ -1,7 +1,6 @@
 -- `numbers_to_message::file_reference::select` meets its contract: each form is a row, in order.
 -- Assumes nothing.
 use Rattle.numbers_to_message.proofs.Laws.{pick_yes, pick_no}
-use borrow.Author.Rules.{rules}
 use Rattle.numbers_to_message.proofs.file_reference.select.Goals as goal
 
 pub returns-then-select_list_fits : goal.returns-then-select_list_fits

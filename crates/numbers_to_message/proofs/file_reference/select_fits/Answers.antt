@@ -2,7 +2,6 @@
 -- Assumes nothing.
 use mathlib.Core.Path.{refl}
 use Rattle.numbers_to_message.proofs.Laws.{pick_yes, pick_no}
-use borrow.Author.Rules.{rules}
 use Rattle.numbers_to_message.proofs.file_reference.select_fits.Goals as goal
 
 pub returns-then-select_list_fits : goal.returns-then-select_list_fits

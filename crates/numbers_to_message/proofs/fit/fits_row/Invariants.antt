@@ -1,13 +1,9 @@
 -- `numbers_to_message::fit::fits_row` meets its contract: the numbers that are left fit the types that are left just where all fit all.
 -- Assumes nothing.
-use borrow.Author.Tests.{not-true, not-false}
-use borrow.Author.Rules.{rules}
-use mathlib.Core.Path.{◌≡◌, refl, sym, subst, ◌∙◌}
-use Prim.Native.Nat.{ℕ, ◌+◌, ◌-◌, ◌≤◌}
-use native.Mathlib.Omega.{arith}
-use lib.ListN.{length, take, drop}
+use mathlib.Core.Path.{◌≡◌}
+use Prim.Native.Nat.{◌+◌, ◌-◌, ◌≤◌}
+use lib.ListN.{take, drop}
 use Rattle.numbers_to_message.specs.Fits.{fits}
-use Rattle.numbers_to_message.proofs.Laws.{turn_short, turn_misfit, turn_fit, turn_done}
 use Rattle.numbers_to_message.proofs.fit.fits_row.Given as goal
 
 abbrev pub invariant-loop-i : goal.invariant-loop-i

@@ -7,7 +7,6 @@ use Rattle.messages.specs.declared.tuning.TuningBank.TheVariants.{NoBank, Bank}
 use Rattle.messages.specs.declared.sample_dump.LoopNumber.TheVariants.{Loop, RequestAll, DeleteAll}
 use Rattle.numbers_to_message.specs.Values.{spelled}
 use Rattle.numbers_to_message.proofs.Laws.{fit_as, pick_some, pick_map, apart_some, flag_some, reference_some}
-use borrow.Author.Rules.{rules}
 use Rattle.numbers_to_message.proofs.fit.fits_type.Goals as goal
 
 pub returns-in-U8 : goal.returns-in-U8

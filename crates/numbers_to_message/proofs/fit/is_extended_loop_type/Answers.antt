@@ -1,6 +1,5 @@
 -- `numbers_to_message::fit::is_extended_loop_type` meets its contract: the tests are those of the definition.
 -- Assumes nothing.
-use borrow.Author.Tests.{ne_eqb}
 use Rattle.numbers_to_message.proofs.fit.is_extended_loop_type.Goals as goal
 
 pub returns-in-0 : goal.returns-in-0

@@ -1,6 +1,5 @@
 -- `numbers_to_message::general_midi::message` meets its contract: each arm is that of its head code.
 -- Assumes nothing.
-use borrow.Author.Tests.{ne_eqb}
 use Rattle.numbers_to_message.proofs.general_midi.message.Goals as goal
 
 pub returns-in-2305 : goal.returns-in-2305

@@ -1,7 +1,6 @@
 -- `numbers_to_message::identity::any_reply` meets its contract: each form is a row, in order.
 -- Assumes nothing.
 use Rattle.numbers_to_message.proofs.Laws.{pick_yes, pick_no}
-use borrow.Author.Rules.{rules}
 use Rattle.numbers_to_message.proofs.identity.any_reply.Goals as goal
 
 pub returns-then-one_byte_reply_fits : goal.returns-then-one_byte_reply_fits

@@ -1,6 +1,5 @@
 -- `numbers_to_message::identity::two_byte_reply` meets its contract: each field is the value of its number.
 -- Assumes nothing.
-use borrow.Author.Rules.{rules}
 use Rattle.numbers_to_message.proofs.identity.two_byte_reply.Goals as goal
 
 pub returns : goal.returns

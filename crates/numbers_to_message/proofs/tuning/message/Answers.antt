@@ -1,7 +1,5 @@
 -- `numbers_to_message::tuning::message` meets its contract: each arm is that of its head code.
 -- Assumes nothing.
-use borrow.Author.Tests.{ne_eqb}
-use borrow.Author.Rules.{rules}
 use Rattle.numbers_to_message.proofs.tuning.message.Goals as goal
 
 pub returns-in-2048 : goal.returns-in-2048

@@ -1,6 +1,5 @@
 -- `numbers_to_message::tuning::note_change` meets its contract: each field is the value of its number.
 -- Assumes nothing.
-use borrow.Author.Rules.{rules}
 use Rattle.numbers_to_message.proofs.tuning.note_change.Goals as goal
 
 pub returns : goal.returns

@@ -1,7 +1,5 @@
 -- `numbers_to_message::values::extended_loop_type_at` meets its contract: the tests are those of the definition.
 -- Assumes nothing.
-use borrow.Author.Tests.{ne_eqb}
-use borrow.Author.Rules.{rules}
 use Rattle.numbers_to_message.proofs.values.extended_loop_type_at.Goals as goal
 
 pub returns-in-0 : goal.returns-in-0

@@ -5,7 +5,6 @@ use native.Mathlib.Omega.{arith}
 use Prim.Native.Nat.{◌-◌}
 use mir.Syntax.{w16}
 use Rattle.numbers_to_message.proofs.Below.{below_fits, below_read}
-use borrow.Author.Rules.{rules}
 use Rattle.numbers_to_message.proofs.values.i16_at.Goals as goal
 
 pub returns-then-x-lt32768 : goal.returns-then-x-lt32768

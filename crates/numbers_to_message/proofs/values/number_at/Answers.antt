@@ -2,7 +2,6 @@
 -- Assumes nothing.
 use mathlib.Core.Path.{sym}
 use lib.ListN.{get_or-eq_default}
-use borrow.Author.Rules.{rules}
 use Rattle.numbers_to_message.proofs.values.number_at.Goals as goal
 
 pub returns-else-i-v : goal.returns-else-i-v

@@ -1,7 +1,5 @@
 -- `numbers_to_message::values::spelled_of` meets its contract: the tests are those of the definition.
 -- Assumes nothing.
-use borrow.Author.Tests.{ne_eqb}
-use borrow.Author.Rules.{rules}
 use Rattle.numbers_to_message.proofs.values.spelled_of.Goals as goal
 
 pub returns-in-1296647241 : goal.returns-in-1296647241

@@ -1,7 +1,6 @@
 -- `numbers_to_message::values::transmitted_loop_at` meets its contract: the tests are those of the definition.
 -- Assumes nothing.
 use borrow.Author.Tests.{lt-ltb, le-ltb, eq-eqb, ne_eqb}
-use borrow.Author.Rules.{rules}
 use Rattle.numbers_to_message.proofs.values.transmitted_loop_at.Goals as goal
 
 pub returns-then-x-eq65536 : goal.returns-then-x-eq65536

@@ -1,7 +1,6 @@
 -- `numbers_to_message::values::u8_at` meets its contract: the tests are those of the definition.
 -- Assumes nothing.
 use borrow.Author.Tests.{lt-ltb, le-ltb}
-use borrow.Author.Rules.{rules}
 use Rattle.numbers_to_message.proofs.values.u8_at.Goals as goal
 
 pub returns-then-x-lt256 : goal.returns-then-x-lt256

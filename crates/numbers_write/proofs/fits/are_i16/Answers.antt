@@ -1,13 +1,10 @@
 -- `numbers_write::fits::are_i16` meets its contract: the numbers that are left fit just where all fit.
 -- Assumes nothing.
-use mathlib.Core.Path.{◌≡◌, refl, sym, ◌∙◌}
-use Prim.Native.Nat.{◌+◌, ◌-◌, ◌≤◌}
+use mathlib.Core.Path.{refl, sym, ◌∙◌}
+use Prim.Native.Nat.{◌+◌, ◌-◌}
 use native.Mathlib.Omega.{arith}
-use lib.ListN.{replicate}
-use borrow.Author.Tests.{not-true, not-false}
 use borrow.Author.Rules.{rules}
 use Rattle.numbers_to_message.specs.declared.fit.NumberType.TheVariants.{I16}
-use Rattle.numbers_to_message.specs.Fits.{fits}
 use Rattle.numbers_write.proofs.Laws.{same_misfit, same_fit, none_left}
 use Rattle.numbers_write.proofs.fits.are_i16.Goals as goal
 

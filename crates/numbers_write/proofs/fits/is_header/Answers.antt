@@ -1,7 +1,6 @@
 -- `numbers_write::fits::is_header` meets its contract: a test for each number, in their order.
 -- Assumes nothing.
 use mathlib.Core.Path.{◌∙◌}
-use borrow.Author.Rules.{rules}
 use Rattle.numbers_to_message.specs.Rows as row
 use Rattle.numbers_write.proofs.Laws.{device_fits, device_misfits, fits_16, fits_32, fits_8, misfits_16, misfits_32, misfits_8, other_length, yes_no}
 use Rattle.numbers_write.proofs.fits.is_header.Goals as goal

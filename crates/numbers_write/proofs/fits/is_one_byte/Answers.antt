@@ -2,7 +2,6 @@
 -- Assumes nothing.
 use mathlib.Core.List.{[], ◌∷◌}
 use lib.ListN.{get_or}
-use borrow.Author.Rules.{rules}
 use Rattle.numbers_to_message.specs.declared.fit.NumberType.TheVariants.{U8}
 use Rattle.numbers_write.proofs.Laws.{below_8, device_fits, device_misfits, other_length}
 use Rattle.numbers_write.proofs.fits.is_one_byte.Goals as goal

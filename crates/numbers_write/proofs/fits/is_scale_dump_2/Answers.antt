@@ -3,7 +3,6 @@
 use native.Mathlib.Omega.{arith}
 use lib.ListN.{length}
 use borrow.Author.Tests.{lt-ltb, le-ltb}
-use borrow.Author.Rules.{rules}
 use Rattle.numbers_to_message.specs.Rows as row
 use Rattle.numbers_write.proofs.Laws.{device_fits, device_misfits, fits_8, misfits_8, other_length}
 use Rattle.numbers_write.proofs.fits.is_scale_dump_2.Goals as goal

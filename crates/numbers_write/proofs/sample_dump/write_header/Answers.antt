@@ -4,7 +4,6 @@ use mathlib.Core.List.{List}
 use mathlib.Core.Path.{◌≡◌, sym, ap}
 use Prim.Native.Nat.{ℕ}
 use lib.ListN.{length}
-use borrow.Author.Rules.{rules}
 use Rattle.util.proofs.Laws.Splice.{part_put}
 use Rattle.messages.specs.Fields.{device_byte}
 use Rattle.messages.specs.Messages.{given, write_of}

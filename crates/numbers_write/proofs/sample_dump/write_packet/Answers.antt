@@ -5,7 +5,6 @@ use mathlib.Core.Path.{◌≡◌, sym, ap}
 use Prim.Native.Nat.{ℕ}
 use native.Mathlib.Omega.{arith}
 use lib.ListN.{length}
-use borrow.Author.Rules.{rules}
 use Rattle.util.proofs.Laws.Splice.{part_put}
 use Rattle.messages.specs.Fields.{device_byte}
 use Rattle.messages.specs.Messages.{given, write_of}

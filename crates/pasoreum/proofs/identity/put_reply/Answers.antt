@@ -5,7 +5,6 @@ use mathlib.Core.List.{List}
 use Prim.Native.Nat.{ℕ}
 use Rattle.numbers_of_message.proofs.Laws.{put_of}
 use Rattle.pasoreum.proofs.Laws.{nine}
-use borrow.Author.Rules.{rules}
 use Rattle.pasoreum.proofs.identity.put_reply.Goals as goal
 
 pub returns : goal.returns

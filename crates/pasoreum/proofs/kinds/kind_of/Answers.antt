@@ -1,6 +1,5 @@
 -- `pasoreum::kinds::kind_of` meets its contract.
 -- Assumes nothing.
-use borrow.Author.Tests.{ne_eqb}
 use Rattle.std.proofs.Common.{rules, tests}
 use Rattle.pasoreum.specs.Kinds.{kind_of}
 use Rattle.pasoreum.proofs.kinds.kind_of.Goals as goal

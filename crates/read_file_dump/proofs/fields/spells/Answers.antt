@@ -1,6 +1,5 @@
 -- `read_file_dump::fields::spells` meets its contract.
 -- Assumes nothing.
-use borrow.Author.Rules.{rules}
 use borrow.Author.Tests.{eq-eqb, ne_eqb}
 use Rattle.read_file_dump.proofs.fields.spells.Goals as goal
 

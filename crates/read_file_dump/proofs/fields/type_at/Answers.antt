@@ -1,7 +1,6 @@
 -- `read_file_dump::fields::type_at` meets its contract.
 -- Assumes nothing.
 use mathlib.Core.Path.{◌∙◌}
-use borrow.Author.Rules.{rules}
 use Rattle.read_file_dump.proofs.fields.type_at.Goals as goal
 
 pub returns : goal.returns

@@ -1,7 +1,6 @@
 -- `read_file_dump::fields::type_of` meets its contract: each answer rewrites with the tests that led there.
 -- Assumes nothing.
 use mathlib.Core.Path.{◌≡◌, sym, ◌∙◌}
-use borrow.Author.Rules.{rules}
 use Rattle.messages.specs.declared.file_dump.FileType.TheVariants.{MIDI, MIEX, ESEQ, TEXT, BIN, MAC}
 use Rattle.messages.specs.Fields.{Four, same_four, type_chars}
 use Rattle.read_file_dump.proofs.fields.type_of.Goals as goal

@@ -1,7 +1,6 @@
 -- `read_file_dump::packed::is_none_over` meets its contract: the last group tells.
 -- Assumes nothing.
 use mathlib.Core.Path.{sym}
-use borrow.Author.Rules.{rules}
 use Rattle.read_file_dump.proofs.Laws.Packed.{over_whole, over_lone, over_spare}
 use Rattle.read_file_dump.proofs.packed.is_none_over.Goals as goal
 

@@ -4,7 +4,6 @@ use mathlib.Core.Path.{◌≡◌}
 use Prim.Native.Nat.{◌*◌, ◌/◌, ◌%◌, ◌+◌, ◌^◌}
 use native.Mathlib.Omega.{arith}
 use lib.Pow.{split}
-use borrow.Author.Rules.{rules}
 use Rattle.read_file_dump.proofs.packed.low_bits.Goals as goal
 use Rattle.read_file_dump.proofs.packed.low_bits.Goals.{After-power-p}
 

@@ -1,6 +1,5 @@
 -- `read_file_dump::packed::next_k` meets its contract.
 -- Assumes nothing.
-use borrow.Author.Rules.{rules}
 use Rattle.read_file_dump.proofs.Laws.Steps.{next_k_less}
 use Rattle.read_file_dump.proofs.packed.next_k.Goals as goal
 

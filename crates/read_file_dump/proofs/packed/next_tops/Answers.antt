@@ -1,7 +1,6 @@
 -- `read_file_dump::packed::next_tops` meets its contract.
 -- Assumes nothing.
 use mathlib.Core.Path.{◌∙◌}
-use borrow.Author.Rules.{rules}
 use Rattle.read_file_dump.proofs.Laws.Steps.{next_tops_low}
 use Rattle.read_file_dump.proofs.packed.next_tops.Goals as goal
 

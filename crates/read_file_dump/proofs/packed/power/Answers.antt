@@ -1,6 +1,5 @@
 -- `read_file_dump::packed::power` meets its contract.
 -- Assumes nothing.
-use borrow.Author.Rules.{rules}
 use Rattle.read_file_dump.proofs.Laws.Steps.{power_table}
 use Rattle.read_file_dump.proofs.packed.power.Goals as goal
 

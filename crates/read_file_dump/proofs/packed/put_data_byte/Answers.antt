@@ -5,7 +5,6 @@ use mathlib.Core.List.{[], ◌∷◌}
 use Prim.Native.Nat.{◌+◌, ◌-◌, ◌*◌, ◌/◌, ◌^◌}
 use native.Mathlib.Omega.{arith}
 use lib.ListN.{length}
-use borrow.Author.Rules.{rules}
 use Rattle.util.proofs.Laws.Splice.{sets_front}
 use Rattle.read_file_dump.proofs.Laws.Steps.{data_byte_one, top_small}
 use Rattle.read_file_dump.proofs.packed.put_data_byte.Goals as goal

@@ -2,7 +2,6 @@
 -- Assumes nothing.
 use native.Mathlib.Omega.{arith}
 use lib.ListN.{length-set}
-use borrow.Author.Rules.{rules}
 use Rattle.util.proofs.Laws.Splice.{sets_front_as}
 use Rattle.read_places.proofs.Laws.Numbers.{seven_get}
 use Rattle.read_file_dump.proofs.Laws.Packed.{group_data}

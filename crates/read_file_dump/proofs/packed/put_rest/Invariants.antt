@@ -1,16 +1,10 @@
 -- `read_file_dump::packed::put_rest` meets its contract. The invariant: the data of the bytes that are left, put on what is there, gives what all give.
 -- Assumes nothing.
-use mathlib.Core.Path.{◌≡◌, refl, sym, ap, ◌∙◌}
+use mathlib.Core.Path.{◌≡◌}
 use Prim.Native.Nat.{◌+◌, ◌-◌, ◌^◌, ◌≤◌, ◌<◌}
-use native.Mathlib.Omega.{arith}
-use native.Mathlib.Nat.{zero-add}
-use lib.ListN.{length, drop, get_or, length-append}
-use borrow.Author.Rules.{rules}
-use Rattle.util.proofs.Laws.Splice.{item_turn, item_done, tail_room}
+use lib.ListN.{length, drop}
 use Rattle.util.specs.Splice.{splice}
-use Rattle.read_places.proofs.Laws.Numbers.{seven_get}
-use Rattle.read_places.specs.Places.{next_k, next_tops, data_byte, data_from}
-use Rattle.read_file_dump.proofs.Laws.Steps.{data_turn, data_none, next_k_small, next_tops_small}
+use Rattle.read_places.specs.Places.{data_from}
 use Rattle.read_file_dump.proofs.packed.put_rest.Given as goal
 
 abbrev pub invariant-loop-i : goal.invariant-loop-i

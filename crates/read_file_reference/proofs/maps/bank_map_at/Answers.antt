@@ -1,6 +1,5 @@
 -- `read_file_reference::maps::bank_map_at` meets its contract, by the length, the number of maps and their flags.
 -- Assumes nothing.
-use borrow.Author.Rules.{rules}
 use mathlib.Core.Path.{sym, ap, ◌∙◌}
 use Prim.Native.Nat.{ℕ, ◌+◌, ◌*◌}
 use Rattle.messages.specs.Maps.{bank_only}

@@ -1,6 +1,5 @@
 -- `read_file_reference::maps::bank_offset_at` meets its contract, by whether there is an offset.
 -- Assumes nothing.
-use borrow.Author.Rules.{rules}
 use mathlib.Core.Path.{sym, ap, ◌∙◌}
 use Prim.Native.Nat.{◌+◌}
 use lib.ListN.{drop}

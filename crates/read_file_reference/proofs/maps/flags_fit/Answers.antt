@@ -1,10 +1,8 @@
 -- `read_file_reference::maps::flags_fit` meets its contract. The invariant: the flags of the maps that are left fit just where all do.
 -- Assumes nothing.
 use borrow.Author.Rules.{rules}
-use mathlib.Core.Path.{◌≡◌, sym, ◌∙◌}
-use Prim.Native.Nat.{◌+◌, ◌*◌, ◌-◌, ◌≤◌}
+use mathlib.Core.Path.{sym, ◌∙◌}
 use native.Mathlib.Omega.{arith}
-use Rattle.read_file_reference.specs.Maps.{flags_fit}
 use Rattle.read_file_reference.proofs.Laws.Maps.{flags_start, flags_turn, flags_found, flags_done}
 use Rattle.read_file_reference.proofs.maps.flags_fit.Goals as goal
 

@@ -1,11 +1,8 @@
 -- `read_file_reference::maps::flags_fit` meets its contract. The invariant: the flags of the maps that are left fit just where all do.
 -- Assumes nothing.
-use borrow.Author.Rules.{rules}
-use mathlib.Core.Path.{◌≡◌, sym, ◌∙◌}
+use mathlib.Core.Path.{◌≡◌}
 use Prim.Native.Nat.{◌+◌, ◌*◌, ◌-◌, ◌≤◌}
-use native.Mathlib.Omega.{arith}
 use Rattle.read_file_reference.specs.Maps.{flags_fit}
-use Rattle.read_file_reference.proofs.Laws.Maps.{flags_start, flags_turn, flags_found, flags_done}
 use Rattle.read_file_reference.proofs.maps.flags_fit.Given as goal
 
 abbrev pub invariant-loop-j : goal.invariant-loop-j

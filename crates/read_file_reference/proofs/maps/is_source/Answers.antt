@@ -1,6 +1,5 @@
 -- `read_file_reference::maps::is_source` meets its contract.
 -- Assumes nothing.
-use borrow.Author.Rules.{rules}
 use mathlib.Core.Path.{refl}
 use lib.Dec.{eqb}
 use Rattle.read_file_reference.proofs.Laws.Maps.{source_set}

@@ -1,6 +1,5 @@
 -- `read_file_reference::maps::map_at` meets its contract, field by field.
 -- Assumes nothing.
-use borrow.Author.Rules.{rules}
 use Rattle.read_file_reference.proofs.maps.map_at.Goals as goal
 
 pub returns : goal.returns

@@ -1,6 +1,5 @@
 -- `read_file_reference::maps::offset_at` meets its contract, by the four bytes and the flag.
 -- Assumes nothing.
-use borrow.Author.Rules.{rules}
 use mathlib.Core.Path.{sym, ap, ◌∙◌}
 use mathlib.Core.Bool.{Bool}
 use mathlib.Core.Option.{some}

@@ -2,11 +2,10 @@
 -- Assumes nothing.
 use borrow.Author.Rules.{rules}
 use mathlib.Core.Path.{◌≡◌, refl, sym, ap, ◌∙◌}
-use Prim.Native.Nat.{ℕ, ◌*◌, ◌-◌, ◌≤◌}
+use Prim.Native.Nat.{ℕ, ◌*◌}
 use native.Mathlib.Nat.{zero-add}
 use native.Mathlib.Omega.{arith}
-use lib.ListN.{length, drop, length-set}
-use lib.Seq.{sets}
+use lib.ListN.{length, length-set}
 use Rattle.util.proofs.Laws.Splice.{store_turn, store_done}
 use Rattle.messages.specs.Entries.{map_entry}
 use Rattle.read_places.specs.Places.{map_at, map_entries}

@@ -1,16 +1,10 @@
 -- `read_file_reference::maps::put_first` meets its contract. The invariant: what is left to store, stored, gives what all the stores give.
 -- Assumes nothing.
-use borrow.Author.Rules.{rules}
-use mathlib.Core.Path.{◌≡◌, refl, sym, ap, ◌∙◌}
-use Prim.Native.Nat.{ℕ, ◌*◌, ◌-◌, ◌≤◌}
-use native.Mathlib.Nat.{zero-add}
-use native.Mathlib.Omega.{arith}
-use lib.ListN.{length, drop, length-set}
+use mathlib.Core.Path.{◌≡◌}
+use Prim.Native.Nat.{◌-◌, ◌≤◌}
+use lib.ListN.{length, drop}
 use lib.Seq.{sets}
-use Rattle.util.proofs.Laws.Splice.{store_turn, store_done}
-use Rattle.messages.specs.Entries.{map_entry}
-use Rattle.read_places.specs.Places.{map_at, map_entries}
-use Rattle.read_places.proofs.Laws.Lists.{entries_length, entries_get}
+use Rattle.read_places.specs.Places.{map_entries}
 use Rattle.read_file_reference.proofs.maps.put_first.Given as goal
 
 abbrev pub invariant-loop-j : goal.invariant-loop-j

@@ -1,6 +1,5 @@
 -- `read_file_reference::maps::wav_at` meets its contract, field by field.
 -- Assumes nothing.
-use borrow.Author.Rules.{rules}
 use Prim.Native.Nat.{◌+◌}
 use native.Mathlib.Omega.{arith}
 use mir.Syntax.{w16}

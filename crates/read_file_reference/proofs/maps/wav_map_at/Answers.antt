@@ -1,6 +1,5 @@
 -- `read_file_reference::maps::wav_map_at` meets its contract, by the length.
 -- Assumes nothing.
-use borrow.Author.Rules.{rules}
 use native.Mathlib.Omega.{arith}
 use Rattle.messages.specs.Maps.{wav_only}
 use Rattle.read_file_reference.proofs.Laws.Picks.{wav_found, wav_other, picks_none}

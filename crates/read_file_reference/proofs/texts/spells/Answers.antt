@@ -1,6 +1,5 @@
 -- `read_file_reference::texts::spells` meets its contract, byte by byte.
 -- Assumes nothing.
-use borrow.Author.Rules.{rules}
 use mathlib.Core.Path.{sym, ◌∙◌}
 use borrow.Author.Tests.{eq-eqb, ne_eqb}
 use Rattle.read_file_reference.proofs.Laws.Texts.{strip_at}

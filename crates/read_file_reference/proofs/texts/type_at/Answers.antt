@@ -1,6 +1,5 @@
 -- `read_file_reference::texts::type_at` meets its contract, type by type.
 -- Assumes nothing.
-use borrow.Author.Rules.{rules}
 use Rattle.read_file_reference.proofs.texts.type_at.Goals as goal
 
 pub returns-then-spells : goal.returns-then-spells

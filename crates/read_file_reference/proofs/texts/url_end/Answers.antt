@@ -1,11 +1,7 @@
 -- `read_file_reference::texts::url_end` meets its contract. The invariant: the first 00 from i on is the first from start on.
 -- Assumes nothing.
-use borrow.Author.Rules.{rules}
-use mathlib.Core.Path.{◌≡◌, refl, ◌∙◌}
-use Prim.Native.Nat.{◌+◌, ◌-◌}
+use mathlib.Core.Path.{refl, ◌∙◌}
 use native.Mathlib.Omega.{arith}
-use lib.ListN.{length, drop}
-use Rattle.read_file_reference.specs.Texts.{first_zero}
 use Rattle.read_file_reference.proofs.Laws.Texts.{zero_turn, zero_found, zero_done}
 use Rattle.read_file_reference.proofs.texts.url_end.Goals as goal
 

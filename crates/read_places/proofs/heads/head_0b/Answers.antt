@@ -4,7 +4,6 @@ use mathlib.Core.Path.{sym, ap, ◌∙◌}
 use Prim.Native.Nat.{ℕ}
 use borrow.Author.Tests.{ne_eqb}
 use Rattle.read_places.specs.Heads.{head_0b}
-use borrow.Author.Rules.{rules}
 use Rattle.read_places.proofs.heads.head_0b.Goals as goal
 
 pub returns-in-1 : goal.returns-in-1

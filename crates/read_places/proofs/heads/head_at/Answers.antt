@@ -4,7 +4,6 @@ use mathlib.Core.Path.{sym, ap, ◌∙◌}
 use Prim.Native.Nat.{ℕ}
 use borrow.Author.Tests.{ne_eqb}
 use Rattle.read_places.specs.Heads.{head_at}
-use borrow.Author.Rules.{rules}
 use Rattle.read_places.proofs.heads.head_at.Goals as goal
 
 pub returns-in-1 : goal.returns-in-1

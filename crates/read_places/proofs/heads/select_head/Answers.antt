@@ -1,6 +1,5 @@
 -- `read_places::heads::select_head` meets its contract: the head of the kind.
 -- Assumes nothing.
-use borrow.Author.Rules.{rules}
 use Rattle.read_places.proofs.heads.select_head.Goals as goal
 
 pub returns-in-Bank : goal.returns-in-Bank

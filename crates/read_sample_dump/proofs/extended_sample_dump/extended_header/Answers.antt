@@ -1,5 +1,4 @@
 -- `read_sample_dump::extended_sample_dump::extended_header` meets its contract: the length is that of the layout, the format in its range, and the type one of its table.
-use borrow.Author.Rules.{rules}
 use native.Mathlib.Omega.{arith}
 use Rattle.messages.specs.declared.head.Head.TheVariants as head
 use Rattle.read_places.proofs.Laws.Answers.{reads_none}

@@ -1,5 +1,4 @@
 -- `read_sample_dump::extended_sample_dump::extended_header_of` meets its contract: each number is read by place.
-use borrow.Author.Rules.{rules}
 use mathlib.Core.Path.{refl, sym, ap}
 use native.Mathlib.Omega.{arith}
 use Rattle.messages.specs.declared.head.Head.TheVariants as head

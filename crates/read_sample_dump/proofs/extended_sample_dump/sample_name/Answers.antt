@@ -1,5 +1,4 @@
 -- `read_sample_dump::extended_sample_dump::sample_name` meets its contract: 00 and the count stand before the name, and nothing follows it.
-use borrow.Author.Rules.{rules}
 use mathlib.Core.Path.{refl, sym, ap, ◌∙◌}
 use Prim.Native.Nat.{ℕ, ◌+◌}
 use native.Mathlib.Omega.{arith}

@@ -2,8 +2,6 @@
 use mathlib.Core.Path.{sym, ap}
 use mathlib.Core.List.{[], ◌∷◌}
 use Prim.Native.Nat.{ℕ}
-use Rattle.messages.specs.declared.sample_dump.LoopType.TheVariants.{Forward, BiDirectional, Off}
-use Rattle.read_sample_dump.proofs.Laws.Bytes.{first_same}
 use Rattle.read_sample_dump.proofs.loops.loop_type.Goals as goal
 
 pub returns-in-0 : goal.returns-in-0

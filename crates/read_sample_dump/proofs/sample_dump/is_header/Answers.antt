@@ -4,7 +4,6 @@ use mathlib.Core.Path.{sym, ap}
 use native.Mathlib.Omega.{arith}
 use Rattle.read_places.specs.Found.{is_read}
 use Rattle.read_sample_dump.proofs.Laws.SampleDump.{header_not, header_low, header_high}
-use borrow.Author.Rules.{rules}
 use Rattle.read_sample_dump.proofs.sample_dump.is_header.Goals as goal
 
 pub returns-then-f-ne16 : goal.returns-then-f-ne16

@@ -1,5 +1,4 @@
 -- `read_sample_dump::sample_dump::loop_points` meets its contract: the length is that of the layout, and the type is one of its table.
-use borrow.Author.Rules.{rules}
 use Rattle.messages.specs.declared.head.Head.TheVariants as head
 use Rattle.read_places.proofs.Laws.Answers.{reads_none}
 use Rattle.read_sample_dump.proofs.Laws.SampleDump.{loop_points_not}

@@ -1,5 +1,4 @@
 -- `read_sample_dump::sample_dump::loop_request` meets its contract: the length is that of the layout, and 16,383 is request all.
-use borrow.Author.Rules.{rules}
 use mathlib.Core.Path.{refl, sym, ap}
 use native.Mathlib.Omega.{arith}
 use Rattle.messages.specs.declared.head.Head.TheVariants as head

@@ -7,7 +7,6 @@ use lib.ListN.{get_or}
 use Rattle.messages.specs.Fields.{tuning_named}
 use Rattle.messages.specs.Entries.{tuning_entry}
 use Rattle.read_tuning.proofs.Laws.Entries.{tuning_past, tuning_cut}
-use borrow.Author.Rules.{rules}
 use Rattle.read_tuning.proofs.entries.cut_tuning_at.Goals as goal
 
 pub returns-then-f-i : goal.returns-then-f-i

@@ -2,7 +2,6 @@
 -- Assumes nothing.
 use native.Mathlib.Omega.{arith}
 use Rattle.read_tuning.proofs.Laws.Entries.{named_none, named_other}
-use borrow.Author.Rules.{rules}
 use Rattle.read_tuning.proofs.entries.named.Goals as goal
 
 pub returns-then-entry-eq8339455 : goal.returns-then-entry-eq8339455

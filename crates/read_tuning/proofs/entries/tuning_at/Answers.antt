@@ -6,7 +6,6 @@ use native.Mathlib.Omega.{arith}
 use lib.ListN.{length}
 use Rattle.messages.specs.Entries.{tuning_entry}
 use Rattle.read_tuning.proofs.Laws.Entries.{tuning_whole}
-use borrow.Author.Rules.{rules}
 use Rattle.read_tuning.proofs.entries.tuning_at.Goals as goal
 
 pub overflow_cast-semitone : goal.overflow_cast-semitone

@@ -11,7 +11,6 @@ use Rattle.util.proofs.Laws.Places.{value_step, value_one}
 use Rattle.read_places.specs.Places.{value_at}
 use Rattle.read_places.proofs.Laws.Numbers.{seven_get}
 use Rattle.read_tuning.proofs.Laws.Scales.{from_bits_16}
-use borrow.Author.Rules.{rules}
 use Rattle.read_tuning.proofs.scales.i14_at.Goals as goal
 
 two_at : (l : List ℕ) (i : ℕ) → get_or l i 0 + 128 * get_or l (i + 1) 0 ≡ value_at 2 l i

@@ -4,7 +4,6 @@ use mathlib.Core.Path.{ap, ◌∙◌}
 use Rattle.read_places.proofs.Laws.Numbers.{value_lt}
 use Rattle.util.specs.Signed.{unbiased}
 use Rattle.read_tuning.proofs.Laws.Scales.{from_bits_8}
-use borrow.Author.Rules.{rules}
 use Rattle.read_tuning.proofs.scales.i7_at.Goals as goal
 
 pub u7_to_i-requires : goal.u7_to_i-requires

@@ -1,7 +1,6 @@
 -- `read_tuning::scales::scale_1_at` meets its contract: each signed number is read back from its bits.
 -- Assumes nothing.
 use Rattle.read_tuning.proofs.Laws.Scales.{from_bits_8}
-use borrow.Author.Rules.{rules}
 use Rattle.read_tuning.proofs.scales.scale_1_at.Goals as goal
 
 pub returns : goal.returns

@@ -1,7 +1,6 @@
 -- `read_tuning::scales::scale_2_at` meets its contract: each signed number is read back from its bits.
 -- Assumes nothing.
 use Rattle.read_tuning.proofs.Laws.Scales.{from_bits_16}
-use borrow.Author.Rules.{rules}
 use Rattle.read_tuning.proofs.scales.scale_2_at.Goals as goal
 
 pub returns : goal.returns

@@ -7,7 +7,6 @@ use native.Mathlib.Omega.{arith}
 use Rattle.util.specs.Splice.{overwritten}
 use Rattle.reader.proofs.Laws.Apart.{data_is_at}
 use Rattle.reader.proofs.Laws.Met.{data_at_size, short_data, short_entries, data_put, entries_put}
-use borrow.Author.Rules.{rules}
 use Rattle.reader.proofs.lent.fill.Goals as goal
 
 pub returns-then-data-count : goal.returns-then-data-count

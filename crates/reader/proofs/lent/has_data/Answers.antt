@@ -1,6 +1,5 @@
 -- `reader::lent::has_data` meets its contract, message by message.
 -- Assumes nothing.
-use borrow.Author.Rules.{rules}
 use Rattle.reader.proofs.lent.has_data.Goals as goal
 
 pub returns-in-SampleDump : goal.returns-in-SampleDump

@@ -1,6 +1,5 @@
 -- `reader::lent::put_entries` meets its contract, message by message.
 -- Assumes nothing.
-use borrow.Author.Rules.{rules}
 use Rattle.reader.proofs.lent.put_entries.Goals as goal
 
 pub returns-in-SampleDump : goal.returns-in-SampleDump

@@ -1,6 +1,5 @@
 -- `reader::lent::put_reference` meets its contract, message by message.
 -- Assumes nothing.
-use borrow.Author.Rules.{rules}
 use Rattle.reader.proofs.lent.put_reference.Goals as goal
 
 pub returns-in-SelectContents : goal.returns-in-SelectContents

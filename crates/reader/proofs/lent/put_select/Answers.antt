@@ -1,6 +1,5 @@
 -- `reader::lent::put_select` meets its contract: only a list of bank maps has entries.
 -- Assumes nothing.
-use borrow.Author.Rules.{rules}
 use Rattle.reader.proofs.lent.put_select.Goals as goal
 
 pub returns-in-SoundFile : goal.returns-in-SoundFile

@@ -11,7 +11,6 @@ use Rattle.read_places.specs.declared.Found.TheVariants.{Is}
 use Rattle.read_places.specs.Found.{Reads}
 use Rattle.reader.proofs.Laws.Met.{read_refused}
 use Rattle.reader.proofs.Laws.Fields.{lent_fields, long_enough, fields_seven, begins_within, read_right, wrong_says, none_says}
-use borrow.Author.Rules.{rules}
 use Rattle.reader.proofs.lent.read_fields.Goals as goal
 
 pub overflow_add-a : goal.overflow_add-a

@@ -1,6 +1,5 @@
 -- `reader::lent::text_start` meets its contract: 0, or a place of the frame.
 -- Assumes nothing.
-use borrow.Author.Rules.{rules}
 use borrow.Author.Tests.{eq-eqb, ne_eqb}
 use Rattle.reader.proofs.lent.text_start.Goals as goal
 

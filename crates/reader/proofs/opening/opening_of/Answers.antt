@@ -18,7 +18,6 @@ use Rattle.read_places.proofs.Laws.Heads.{Sized, head_sized}
 use Rattle.reader.specs.Opening.{device_at, fields_in}
 use Rattle.reader.proofs.Laws.Sums.{sum_true}
 use Rattle.reader.proofs.Laws.Opening.{opened_at, opening_at, opening_not, opening_take, opens_with}
-use borrow.Author.Rules.{rules}
 use Rattle.reader.proofs.opening.opening_of.Goals as goal
 
 pub returns-then-at-ne126 : goal.returns-then-at-ne126

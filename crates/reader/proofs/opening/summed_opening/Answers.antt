@@ -8,7 +8,6 @@ use lib.ListN.{length}
 use lib.Seq.{length-take-le}
 use Rattle.reader.specs.Opening.{device_at}
 use Rattle.reader.proofs.Laws.Sums.{sum_is, no_sum}
-use borrow.Author.Rules.{rules}
 use Rattle.reader.proofs.opening.summed_opening.Goals as goal
 
 pub returns-then-mid-n : goal.returns-then-mid-n

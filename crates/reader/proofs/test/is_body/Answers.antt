@@ -10,7 +10,6 @@ use Rattle.messages.specs.declared.head.Head.TheVariants as head
 use Rattle.messages.specs.Layouts.{form}
 use Rattle.read_places.specs.Found.{is_read}
 use Rattle.reader.proofs.Laws.Brief.{brief_body, header_body}
-use borrow.Author.Rules.{rules}
 use Rattle.reader.proofs.test.is_body.Goals as goal
 
 pub returns-then-is_brief : goal.returns-then-is_brief

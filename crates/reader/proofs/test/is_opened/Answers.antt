@@ -1,6 +1,6 @@
 -- `reader::test::is_opened` meets its contract: a message is given where the checksum is right and the fields are read.
 -- Assumes nothing.
-use mathlib.Core.Path.{◌≡◌, sym, ap, subst, ◌∙◌}
+use mathlib.Core.Path.{sym, ap, subst, ◌∙◌}
 use mathlib.Core.Bool.{Bool}
 use mathlib.Core.List.{List}
 use Prim.Native.Nat.{ℕ, ◌-◌}
@@ -15,7 +15,6 @@ use Rattle.reader.specs.declared.opening.Opening.{Opening}
 use Rattle.reader.specs.declared.opening.Opening.TheVariants as opening
 use Rattle.reader.specs.Opening.{device_at, fields_in, Opens}
 use Rattle.reader.proofs.Laws.Fields.{given_right, given_wrong}
-use borrow.Author.Rules.{rules}
 use Rattle.reader.proofs.test.is_opened.Goals as goal
 
 pub slice_bounds-is_valid-count : goal.slice_bounds-is_valid-count

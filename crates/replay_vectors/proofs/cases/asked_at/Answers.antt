@@ -1,6 +1,5 @@
 -- `replay_vectors::cases::asked_at` meets its contract: each part starts where the one before it ends, and ends within the slice.
 -- Assumes nothing.
-use borrow.Author.Rules.{rules}
 use Rattle.replay_vectors.proofs.cases.asked_at.Goals as goal
 
 pub bytes_at-requires : goal.bytes_at-requires

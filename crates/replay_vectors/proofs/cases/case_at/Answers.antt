@@ -1,7 +1,6 @@
 -- `replay_vectors::cases::case_at` meets its contract: what is asked, and the answer where that ends, are the case.
 -- Assumes nothing.
 use Rattle.replay_vectors.proofs.Laws.{both_in}
-use borrow.Author.Rules.{rules}
 use Rattle.replay_vectors.proofs.cases.case_at.Goals as goal
 
 pub answer_at-requires : goal.answer_at-requires

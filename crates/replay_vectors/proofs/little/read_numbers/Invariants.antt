@@ -1,12 +1,9 @@
 -- `replay_vectors::little::read_numbers` meets its contract. The invariant: each number passed is the one of its eight bytes.
 -- Assumes nothing.
-use borrow.Author.Rules.{rules}
 use Prim.Native.Nat.{ℕ, ◌+◌, ◌*◌, ◌≤◌, ◌<◌, ◌-◌}
-use native.Mathlib.Omega.{arith}
 use Rattle.replay_vectors.specs.Little.{little8}
-use Rattle.util.proofs.Laws.Stores.{store_more}
-use mathlib.Core.Path.{◌≡◌, refl, ◌∙◌}
-use lib.ListN.{length, get_or, length-set}
+use mathlib.Core.Path.{◌≡◌}
+use lib.ListN.{length, get_or}
 use Rattle.replay_vectors.proofs.little.read_numbers.Given as goal
 
 abbrev pub invariant-loop-i : goal.invariant-loop-i

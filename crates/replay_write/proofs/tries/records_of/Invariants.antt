@@ -1,7 +1,6 @@
 -- `replay_write::tries::records_of` is safe and ends. The measure is how many records are left.
 -- Assumes nothing.
 use Prim.Native.Nat.{◌≤◌, ◌-◌}
-use borrow.Author.Rules.{rules}
 use Rattle.replay_write.proofs.tries.records_of.Given as goal
 
 abbrev pub invariant-loop-i : goal.invariant-loop-i

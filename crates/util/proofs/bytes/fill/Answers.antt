@@ -1,11 +1,10 @@
 -- `util::bytes::fill` meets its contract. The invariant: the stores that are left, made on what is there, give what all stores give.
 -- Assumes nothing.
 use borrow.Author.Rules.{rules}
-use mathlib.Core.Path.{◌≡◌, refl, sym, ◌∙◌}
-use Prim.Native.Nat.{◌≤◌, ◌<◌, ◌-◌}
+use mathlib.Core.Path.{refl, sym, ◌∙◌}
+use Prim.Native.Nat.{◌<◌}
 use native.Mathlib.Omega.{arith}
-use lib.ListN.{length, drop, replicate, length-set, length-replicate, get_or-replicate}
-use lib.Seq.{sets}
+use lib.ListN.{replicate, length-set, length-replicate, get_or-replicate}
 use Rattle.util.proofs.Laws.Splice.{store_turn, store_done}
 use Rattle.util.proofs.bytes.fill.Goals as goal
 

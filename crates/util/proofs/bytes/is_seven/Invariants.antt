@@ -1,13 +1,11 @@
 -- `util::bytes::is_seven` meets its contract. The invariant: the joined bits and the bytes that are left are below 128 just where all bytes are.
 -- Assumes nothing.
-use borrow.Author.Rules.{rules}
-use mathlib.Core.Path.{◌≡◌, refl, sym, ◌∙◌}
+use mathlib.Core.Path.{◌≡◌}
 use mathlib.Core.Bool.{◌&&◌}
 use Prim.Native.Nat.{◌≤◌, ◌-◌}
 use lib.Dec.{ltb}
 use lib.ListN.{length, drop}
 use Rattle.util.specs.Groups.{seven}
-use Rattle.util.proofs.Laws.Bytes.{seven_turn, seven_done}
 use Rattle.util.proofs.bytes.is_seven.Given as goal
 
 abbrev pub invariant-loop-i : goal.invariant-loop-i

@@ -5,7 +5,6 @@ use Prim.Native.Nat.{ℕ, ◌+◌, ◌-◌}
 use native.Mathlib.Omega.{arith}
 use lib.ListN.{length, take, drop, length-drop, drop_of_length-le}
 use lib.Seq.{take_all, take-nil}
-use borrow.Author.Rules.{rules}
 use Rattle.util.proofs.bytes.sub_slice.Goals as goal
 
 pub returns-then-n-from : goal.returns-then-n-from

@@ -1,6 +1,5 @@
 -- `util::channels::channels_of` meets its contract: the test is that of the definition.
 -- Assumes nothing.
-use borrow.Author.Rules.{rules}
 use borrow.Author.Tests.{lt-ltb, le-ltb}
 use Rattle.util.proofs.Laws.Channels.{channels_value}
 use Rattle.util.proofs.channels.channels_of.Goals as goal

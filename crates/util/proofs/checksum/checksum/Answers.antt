@@ -1,10 +1,7 @@
 -- `util::checksum::checksum` meets its contract. The invariant: the XOR of what is there and the bytes that are left is that of all bytes.
 -- Assumes nothing.
 use borrow.Author.Rules.{rules}
-use mathlib.Core.Path.{◌≡◌, refl, sym, ◌∙◌}
-use Prim.Native.Nat.{◌≤◌, ◌-◌}
-use lib.ListN.{length, drop}
-use Rattle.util.specs.Checksum.{xor_from}
+use mathlib.Core.Path.{refl, sym, ◌∙◌}
 use Rattle.util.proofs.Laws.Checksum.{xor_turn, xor_done}
 use Rattle.util.proofs.checksum.checksum.Goals as goal
 

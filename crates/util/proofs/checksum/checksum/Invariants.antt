@@ -1,11 +1,9 @@
 -- `util::checksum::checksum` meets its contract. The invariant: the XOR of what is there and the bytes that are left is that of all bytes.
 -- Assumes nothing.
-use borrow.Author.Rules.{rules}
-use mathlib.Core.Path.{◌≡◌, refl, sym, ◌∙◌}
+use mathlib.Core.Path.{◌≡◌}
 use Prim.Native.Nat.{◌≤◌, ◌-◌}
 use lib.ListN.{length, drop}
 use Rattle.util.specs.Checksum.{xor_from}
-use Rattle.util.proofs.Laws.Checksum.{xor_turn, xor_done}
 use Rattle.util.proofs.checksum.checksum.Given as goal
 
 abbrev pub invariant-loop-i : goal.invariant-loop-i

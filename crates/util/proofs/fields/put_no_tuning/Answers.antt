@@ -1,6 +1,5 @@
 -- `util::fields::put_no_tuning` meets its contract: the stores are three bytes of 127.
 -- Assumes nothing.
-use borrow.Author.Rules.{rules}
 use native.Mathlib.Omega.{arith}
 use lib.ListN.{length-set}
 use Rattle.util.specs.Fields.{no_tuning_bytes}

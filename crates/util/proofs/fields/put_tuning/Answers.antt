@@ -1,6 +1,5 @@
 -- `util::fields::put_tuning` meets its contract: the stores are the groups of the held values.
 -- Assumes nothing.
-use borrow.Author.Rules.{rules}
 use native.Mathlib.Omega.{arith}
 use lib.ListN.{length-set}
 use Rattle.util.proofs.Laws.Fields.{tuning_bytes_are}

@@ -1,6 +1,5 @@
 -- `util::groups::at` meets its contract: past the end the list has 0.
 -- Assumes nothing.
-use borrow.Author.Rules.{rules}
 use mathlib.Core.Path.{sym}
 use lib.ListN.{get_or-eq_default}
 use Rattle.util.proofs.groups.at.Goals as goal

@@ -1,6 +1,5 @@
 -- `util::groups::put_u14` meets its contract: the two stores are the two groups of the held value.
 -- Assumes nothing.
-use borrow.Author.Rules.{rules}
 use native.Mathlib.Omega.{arith}
 use lib.ListN.{length-set}
 use Rattle.util.proofs.Laws.Splice.{put_groups}

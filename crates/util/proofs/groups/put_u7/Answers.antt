@@ -1,6 +1,5 @@
 -- `util::groups::put_u7` meets its contract: the one store is the one group of the held value.
 -- Assumes nothing.
-use borrow.Author.Rules.{rules}
 use lib.ListN.{length-set}
 use Rattle.util.proofs.Laws.Splice.{put_groups}
 use Rattle.util.proofs.groups.put_u7.Goals as goal

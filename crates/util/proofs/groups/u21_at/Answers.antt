@@ -1,6 +1,5 @@
 -- `util::groups::u21_at` meets its contract: the value of three groups is that of 1 and 2.
 -- Assumes nothing.
-use borrow.Author.Rules.{rules}
 use mathlib.Core.Path.{sym}
 use Rattle.util.proofs.Laws.Places.{value_part, value_past}
 use Rattle.util.proofs.groups.u21_at.Goals as goal

@@ -1,6 +1,5 @@
 -- `util::groups::u28_at` meets its contract: the value of four groups is that of 2 and 2.
 -- Assumes nothing.
-use borrow.Author.Rules.{rules}
 use mathlib.Core.Path.{sym}
 use Rattle.util.proofs.Laws.Places.{value_part, value_past}
 use Rattle.util.proofs.groups.u28_at.Goals as goal

@@ -1,6 +1,5 @@
 -- `util::groups::u35_at` meets its contract: the value of five groups is that of 1 and 4.
 -- Assumes nothing.
-use borrow.Author.Rules.{rules}
 use mathlib.Core.Path.{sym}
 use Rattle.util.proofs.Laws.Places.{value_part, value_past}
 use Rattle.util.proofs.groups.u35_at.Goals as goal

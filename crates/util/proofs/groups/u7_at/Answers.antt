@@ -1,6 +1,5 @@
 -- `util::groups::u7_at` meets its contract: the value of one group is the byte.
 -- Assumes nothing.
-use borrow.Author.Rules.{rules}
 use mathlib.Core.Path.{sym, ◌∙◌}
 use Rattle.util.proofs.Laws.Places.{value_one}
 use Rattle.util.proofs.groups.u7_at.Goals as goal

@@ -1,6 +1,5 @@
 -- `util::signed::put_i14` meets its contract: a held value that is held again is itself.
 -- Assumes nothing.
-use borrow.Author.Rules.{rules}
 use mathlib.Core.Path.{ap, ◌∙◌}
 use Prim.Native.Nat.{ℕ}
 use Rattle.util.specs.Groups.{groups}

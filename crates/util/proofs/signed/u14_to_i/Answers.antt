@@ -1,6 +1,5 @@
 -- `util::signed::u14_to_i` meets its contract: the difference is the unbiased value.
 -- Assumes nothing.
-use borrow.Author.Rules.{rules}
 use native.Mathlib.Omega.{arith}
 use lib.Dec.{lit≤}
 use mir.Syntax.{w16}

@@ -1,6 +1,5 @@
 -- `util::signed::u7_to_i` meets its contract: the difference is the unbiased value.
 -- Assumes nothing.
-use borrow.Author.Rules.{rules}
 use lib.Dec.{lit≤}
 use mir.Syntax.{w8}
 use Rattle.util.proofs.Laws.Signed.{difference_fits, difference_read}

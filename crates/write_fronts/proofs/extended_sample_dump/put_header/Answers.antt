@@ -4,7 +4,6 @@ use mathlib.Core.Path.{refl}
 use mathlib.Core.List.{List, [], ◌∷◌}
 use Prim.Native.Nat.{ℕ}
 use native.Mathlib.Omega.{arith}
-use borrow.Author.Rules.{rules}
 use Rattle.util.proofs.Laws.Splice.{Run, run_part}
 use Rattle.messages.specs.Structures.{extended_loop_byte}
 use Rattle.write_fronts.specs.Fronts.{clamp, spell, start_2}

@@ -2,7 +2,6 @@
 -- Assumes nothing.
 use mathlib.Core.Path.{ap, ◌∙◌}
 use Rattle.util.specs.Groups.{held}
-use borrow.Author.Rules.{rules}
 use Rattle.write_fronts.proofs.Laws.{code, field, done, put}
 use Rattle.write_fronts.proofs.extended_sample_dump.put_header_rate.Goals as goal
 

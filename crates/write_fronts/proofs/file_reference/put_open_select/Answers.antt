@@ -3,7 +3,6 @@
 use mathlib.Core.Path.{ap, ◌∙◌}
 use Rattle.util.specs.Groups.{held}
 use Rattle.messages.specs.Fields.{Four}
-use borrow.Author.Rules.{rules}
 use Rattle.write_fronts.proofs.Laws.{code, field, done, put}
 use Rattle.write_fronts.proofs.file_reference.put_open_select.Goals as goal
 

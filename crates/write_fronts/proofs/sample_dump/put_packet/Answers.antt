@@ -1,6 +1,5 @@
 -- `write_fronts::sample_dump::put_packet` meets its contract: the bytes are those of the fields, each value held to its groups.
 -- Assumes nothing.
-use borrow.Author.Rules.{rules}
 use Rattle.write_fronts.proofs.Laws.{code, field, done, put}
 use Rattle.write_fronts.proofs.sample_dump.put_packet.Goals as goal
 

@@ -1,6 +1,5 @@
 -- `write_fronts::system_exclusive::put_extended_reply` meets its contract: the bytes are those of the fields, each value held to its groups.
 -- Assumes nothing.
-use borrow.Author.Rules.{rules}
 use Rattle.write_fronts.proofs.Laws.{code, field, done, put}
 use Rattle.write_fronts.proofs.system_exclusive.put_extended_reply.Goals as goal
 

@@ -1,6 +1,5 @@
 -- `write_fronts::system_exclusive::put_general_midi` meets its contract, message by message.
 -- Assumes nothing.
-use borrow.Author.Rules.{rules}
 use Rattle.write_fronts.proofs.system_exclusive.put_general_midi.Goals as goal
 
 pub returns-in-GM1 : goal.returns-in-GM1

@@ -1,6 +1,5 @@
 -- `write_fronts::tuning::put_bank_program` meets its contract: the bytes are those of the fields, each value held to its groups.
 -- Assumes nothing.
-use borrow.Author.Rules.{rules}
 use Rattle.write_fronts.proofs.Laws.{code, field, done, put}
 use Rattle.write_fronts.proofs.tuning.put_bank_program.Goals as goal
 

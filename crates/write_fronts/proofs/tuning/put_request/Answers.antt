@@ -1,6 +1,5 @@
 -- `write_fronts::tuning::put_request` meets its contract, message by message.
 -- Assumes nothing.
-use borrow.Author.Rules.{rules}
 use Rattle.write_fronts.proofs.tuning.put_request.Goals as goal
 
 pub put_program-requires : goal.put_program-requires

@@ -1,5 +1,4 @@
 -- `write_fronts::values::map_length` meets its contract: each map has the length that is defined for it.
-use borrow.Author.Rules.{rules}
 use Rattle.write_fronts.proofs.values.map_length.Goals as goal
 
 pub returns-in-SoundFile : goal.returns-in-SoundFile

@@ -2,7 +2,6 @@
 -- Assumes nothing.
 use mathlib.Core.Path.{sym}
 use lib.ListN.{get_or-eq_default}
-use borrow.Author.Rules.{rules}
 use Rattle.write_lists.proofs.Laws.Lists.{get_d_any}
 use Rattle.write_lists.proofs.entries.key_at.Goals as goal
 

@@ -4,7 +4,6 @@ use mathlib.Core.List.{◌++◌}
 use mathlib.Core.Path.{refl, ap, ◌∙◌}
 use Prim.Native.Nat.{ℕ, ◌%◌}
 use native.Mathlib.Omega.{arith}
-use borrow.Author.Rules.{rules}
 use Rattle.util.specs.Groups.{groups, held}
 use Rattle.util.proofs.Laws.Splice.{Run, run_part}
 use Rattle.messages.specs.Entries.{tuning_of}

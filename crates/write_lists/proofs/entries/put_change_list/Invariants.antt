@@ -1,17 +1,12 @@
 -- `write_lists::entries::put_change_list` meets its contract. The invariant: the entries that are left, written on what is there, give what all give.
 -- Assumes nothing.
-use mathlib.Core.Path.{◌≡◌, refl, sym, ap, ◌∙◌}
-use Prim.Native.Nat.{◌+◌, ◌-◌, ◌*◌, ◌≤◌, ◌<◌}
-use native.Mathlib.Omega.{arith}
-use lib.ListN.{length, drop, get_or}
-use borrow.Author.Rules.{rules}
+use mathlib.Core.Path.{◌≡◌}
+use Prim.Native.Nat.{◌-◌, ◌*◌, ◌≤◌}
+use lib.ListN.{length, drop}
 use Rattle.util.specs.Splice.{splice}
-use Rattle.util.proofs.Laws.Splice.{item_turn, item_done, tail_room}
 use Rattle.messages.specs.Entries.{change_of}
 use Rattle.messages.specs.Structures.{key_tuning}
-use Rattle.messages.specs.format.Core.{written}
 use Rattle.write_lists.specs.Writing.{items}
-use Rattle.write_lists.proofs.Laws.Lists.{items_turn, items_done}
 use Rattle.write_lists.proofs.entries.put_change_list.Given as goal
 
 abbrev pub invariant-loop-i : goal.invariant-loop-i

@@ -1,8 +1,8 @@
 -- `write_lists::entries::put_keys` meets its contract. The invariant: the keys that are left, written on what is there, give what all give.
 -- Assumes nothing.
 use mathlib.Core.List.{List}
-use mathlib.Core.Path.{◌≡◌, refl, sym, ap, ◌∙◌}
-use Prim.Native.Nat.{ℕ, ◌+◌, ◌-◌, ◌*◌, ◌≤◌, ◌<◌}
+use mathlib.Core.Path.{refl, sym, ap, ◌∙◌}
+use Prim.Native.Nat.{ℕ, ◌+◌, ◌-◌, ◌*◌, ◌<◌}
 use native.Mathlib.Omega.{arith}
 use lib.ListN.{length, take, drop, get_or}
 use borrow.Author.Rules.{rules}
@@ -11,7 +11,6 @@ use Rattle.util.proofs.Laws.Splice.{item_turn, item_done, tail_room}
 use Rattle.messages.specs.Entries.{tuning_of}
 use Rattle.messages.specs.Fields.{tuning}
 use Rattle.messages.specs.format.Core.{written}
-use Rattle.write_lists.specs.Parts.{part_keys}
 use Rattle.write_lists.proofs.Laws.Keys.{keys_from, keys_turn, keys_done}
 use Rattle.write_lists.proofs.entries.put_keys.Goals as goal
 

@@ -1,7 +1,6 @@
 -- `write_lists::entries::put_tuning_entry` meets its contract: an entry below 2^24 is a tuning, and another is none.
 -- Assumes nothing.
 use mathlib.Core.Path.{sym, ◌∙◌}
-use borrow.Author.Rules.{rules}
 use Rattle.write_lists.proofs.Laws.Fronts.{fronts}
 use Rattle.write_lists.proofs.Laws.Numbers.{tuned_is, untuned_is}
 use Rattle.write_lists.proofs.entries.put_tuning_entry.Goals as goal

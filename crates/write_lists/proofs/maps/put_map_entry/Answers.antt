@@ -3,7 +3,6 @@
 use mathlib.Core.Path.{◌≡◌, refl, sym, ap, ◌∙◌}
 use Prim.Native.Nat.{◌/◌, ◌%◌, min}
 use native.Mathlib.Omega.{arith}
-use borrow.Author.Rules.{rules}
 use Rattle.util.specs.Groups.{groups, held}
 use Rattle.messages.specs.format.Core.{written}
 use Rattle.messages.specs.Fields.{flags, is_set}

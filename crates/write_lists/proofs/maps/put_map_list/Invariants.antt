@@ -1,17 +1,12 @@
 -- `write_lists::maps::put_map_list` meets its contract. The invariant: the entries that are left, written on what is there, give what all give.
 -- Assumes nothing.
-use mathlib.Core.Path.{◌≡◌, refl, sym, ap, ◌∙◌}
-use Prim.Native.Nat.{◌+◌, ◌-◌, ◌*◌, ◌≤◌, ◌<◌}
-use native.Mathlib.Omega.{arith}
-use lib.ListN.{length, drop, get_or}
-use borrow.Author.Rules.{rules}
+use mathlib.Core.Path.{◌≡◌}
+use Prim.Native.Nat.{◌-◌, ◌*◌, ◌≤◌}
+use lib.ListN.{length, drop}
 use Rattle.util.specs.Splice.{splice}
-use Rattle.util.proofs.Laws.Splice.{item_turn, item_done, tail_room}
 use Rattle.messages.specs.Entries.{map_of}
 use Rattle.messages.specs.Maps.{sound_file_map}
-use Rattle.messages.specs.format.Core.{written}
 use Rattle.write_lists.specs.Writing.{items}
-use Rattle.write_lists.proofs.Laws.Lists.{items_turn, items_done}
 use Rattle.write_lists.proofs.maps.put_map_list.Given as goal
 
 abbrev pub invariant-loop-i : goal.invariant-loop-i

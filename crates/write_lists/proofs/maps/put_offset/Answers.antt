@@ -5,7 +5,6 @@ use mathlib.Core.Path.{refl, sym, ap, ◌∙◌}
 use Prim.Native.Nat.{ℕ}
 use native.Mathlib.Omega.{arith}
 use lib.ListN.{length-set}
-use borrow.Author.Rules.{rules}
 use Rattle.util.specs.Groups.{groups, held}
 use Rattle.util.proofs.Laws.Splice.{sets_front}
 use Rattle.messages.specs.format.Core.{written}

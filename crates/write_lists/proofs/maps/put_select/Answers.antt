@@ -1,6 +1,5 @@
 -- `write_lists::maps::put_select` meets its contract, kind by kind.
 -- Assumes nothing.
-use borrow.Author.Rules.{rules}
 use Rattle.write_lists.proofs.maps.put_select.Goals as goal
 
 pub put_maps-requires : goal.put_maps-requires

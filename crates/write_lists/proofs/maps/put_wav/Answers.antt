@@ -3,7 +3,6 @@
 use mathlib.Core.Path.{refl, ◌∙◌}
 use native.Mathlib.Omega.{arith}
 use mir.Syntax.{w16}
-use borrow.Author.Rules.{rules}
 use Rattle.util.specs.Groups.{groups, held}
 use Rattle.messages.specs.format.Core.{written}
 use Rattle.messages.specs.Fields.{s14}

@@ -2,7 +2,6 @@
 -- Assumes nothing.
 use mathlib.Core.Path.{refl}
 use native.Mathlib.Omega.{arith}
-use borrow.Author.Rules.{rules}
 use Rattle.util.proofs.Laws.Splice.{Run, run_part}
 use Rattle.messages.specs.Maps.{wav_map}
 use Rattle.messages.specs.format.Core.{written}

@@ -1,6 +1,5 @@
 -- `write_lists::packing::next_left` meets its contract.
 -- Assumes nothing.
-use borrow.Author.Rules.{rules}
 use Rattle.write_lists.proofs.Laws.Packs.{next_less}
 use Rattle.write_lists.proofs.packing.next_left.Goals as goal
 

@@ -6,7 +6,6 @@ use Prim.Native.Nat.{◌+◌, ◌-◌, ◌≤◌}
 use native.Mathlib.Omega.{arith}
 use lib.ListN.{length, set, length-set}
 use borrow.Rule.Slice.PartMut.{put_mid}
-use borrow.Author.Rules.{rules}
 use Rattle.util.specs.Packing.{pack}
 use Rattle.util.proofs.Laws.Splice.{Run, run_length}
 use Rattle.messages.specs.format.Packed.{count_byte}

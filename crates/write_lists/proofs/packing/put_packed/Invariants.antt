@@ -1,16 +1,10 @@
 -- `write_lists::packing::put_packed` meets its contract. The invariant: the bytes that are left, packed on what is there, give what all give.
 -- Assumes nothing.
-use mathlib.Core.Path.{◌≡◌, refl, sym, ap, ◌∙◌}
-use Prim.Native.Nat.{◌^◌, ◌+◌, ◌-◌, ◌≤◌, ◌<◌}
-use native.Mathlib.Nat.{zero-add}
-use native.Mathlib.Omega.{arith}
-use lib.ListN.{length-append, length, drop}
-use borrow.Author.Rules.{rules}
+use mathlib.Core.Path.{◌≡◌}
+use Prim.Native.Nat.{◌+◌, ◌-◌, ◌≤◌}
+use lib.ListN.{length, drop}
 use Rattle.util.specs.Splice.{splice}
 use Rattle.util.specs.Packing.{pack}
-use Rattle.util.proofs.Laws.Splice.{item_turn, item_done, tail_room}
-use Rattle.write_lists.specs.Writing.{next_left, pack_one}
-use Rattle.write_lists.proofs.Laws.Packs.{pack_turn, next_small, pack_none}
 use Rattle.write_lists.proofs.packing.put_packed.Given as goal
 
 abbrev pub invariant-loop-i : goal.invariant-loop-i

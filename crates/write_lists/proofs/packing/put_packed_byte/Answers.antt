@@ -4,7 +4,6 @@ use mathlib.Core.Path.{refl}
 use Prim.Native.Nat.{suc, ◌-◌}
 use native.Mathlib.Omega.{arith}
 use lib.ListN.{drop, length-set}
-use borrow.Author.Rules.{rules}
 use Rattle.util.proofs.Laws.Splice.{sets_front}
 use Rattle.write_lists.specs.Writing.{pack_one}
 use Rattle.write_lists.proofs.Laws.Packs.{one_there, not_zero, one_first}

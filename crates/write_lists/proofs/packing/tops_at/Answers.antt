@@ -1,6 +1,5 @@
 -- `write_lists::packing::tops_at` meets its contract: the sum of seven top bits.
 -- Assumes nothing.
-use borrow.Author.Rules.{rules}
 use Rattle.write_lists.proofs.Laws.Packs.{weighed}
 use Rattle.write_lists.proofs.packing.tops_at.Goals as goal
 

@@ -1,7 +1,6 @@
 -- `write_lists::part::put_key_dump` meets its contract: a name, and after it the tunings of keys.
 -- Assumes nothing.
 use native.Mathlib.Omega.{arith}
-use borrow.Author.Rules.{rules}
 use Rattle.util.proofs.Laws.Splice.{Run, run_part}
 use Rattle.messages.specs.Fields.{name_of_16}
 use Rattle.messages.specs.format.Core.{written}

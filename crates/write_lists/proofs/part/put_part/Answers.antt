@@ -3,7 +3,6 @@
 use Prim.Native.Nat.{◌≤◌}
 use native.Mathlib.Omega.{arith}
 use lib.ListN.{length}
-use borrow.Author.Rules.{rules}
 use Rattle.write_lists.specs.Parts.{part_size}
 use Rattle.write_lists.proofs.Laws.Sizes.{length_part}
 use Rattle.write_lists.proofs.part.put_part.Goals as goal

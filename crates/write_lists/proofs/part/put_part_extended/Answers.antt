@@ -1,6 +1,5 @@
 -- `write_lists::part::put_part_extended` meets its contract, message by message.
 -- Assumes nothing.
-use borrow.Author.Rules.{rules}
 use Rattle.write_lists.proofs.part.put_part_extended.Goals as goal
 
 pub put_sample_name-requires : goal.put_sample_name-requires

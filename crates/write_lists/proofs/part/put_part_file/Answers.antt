@@ -1,6 +1,5 @@
 -- `write_lists::part::put_part_file` meets its contract, message by message: admitted data is at most 111 bytes.
 -- Assumes nothing.
-use borrow.Author.Rules.{rules}
 use Rattle.write_lists.proofs.Laws.Sizes.{not_longer}
 use Rattle.write_lists.proofs.part.put_part_file.Goals as goal
 

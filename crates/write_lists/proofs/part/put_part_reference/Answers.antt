@@ -1,6 +1,5 @@
 -- `write_lists::part::put_part_reference` meets its contract, message by message.
 -- Assumes nothing.
-use borrow.Author.Rules.{rules}
 use Rattle.write_lists.proofs.part.put_part_reference.Goals as goal
 
 pub put_url-requires : goal.put_url-requires

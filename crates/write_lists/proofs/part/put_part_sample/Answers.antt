@@ -1,6 +1,5 @@
 -- `write_lists::part::put_part_sample` meets its contract, message by message.
 -- Assumes nothing.
-use borrow.Author.Rules.{rules}
 use Rattle.write_lists.proofs.part.put_part_sample.Goals as goal
 
 pub put_samples-requires : goal.put_samples-requires

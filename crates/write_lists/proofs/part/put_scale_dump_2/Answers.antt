@@ -2,7 +2,6 @@
 -- Assumes nothing.
 use mathlib.Core.Path.{refl}
 use native.Mathlib.Omega.{arith}
-use borrow.Author.Rules.{rules}
 use Rattle.util.proofs.Laws.Splice.{Run, run_part}
 use Rattle.messages.specs.Structures.{scale_2}
 use Rattle.messages.specs.Fields.{name_of_16}

@@ -3,7 +3,6 @@
 use mathlib.Core.Path.{◌∙◌}
 use Prim.Native.Nat.{◌+◌}
 use native.Mathlib.Omega.{arith}
-use borrow.Author.Rules.{rules}
 use Rattle.util.proofs.Laws.Splice.{Run, run_part, run_room}
 use Rattle.messages.specs.Fields.{url}
 use Rattle.messages.specs.format.Core.{written}

@@ -4,7 +4,6 @@ use mathlib.Core.Path.{◌∙◌}
 use Prim.Native.Nat.{◌-◌}
 use lib.ListN.{length, take, drop}
 use mir.Syntax.{w8}
-use borrow.Author.Rules.{rules}
 use Rattle.util.proofs.Laws.Splice.{part_put}
 use Rattle.messages.specs.format.Core.{written}
 use Rattle.messages.specs.Fields.{s7}

@@ -1,6 +1,5 @@
 -- `write_lists::places::put_u7_at` meets its contract: the part from `at` on begins with the groups.
 -- Assumes nothing.
-use borrow.Author.Rules.{rules}
 use Rattle.util.specs.Groups.{groups, held}
 use Rattle.util.proofs.Laws.Splice.{part_put}
 use Rattle.write_lists.proofs.places.put_u7_at.Goals as goal

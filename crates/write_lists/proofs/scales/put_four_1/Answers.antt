@@ -3,7 +3,6 @@
 use mathlib.Core.Path.{refl}
 use native.Mathlib.Omega.{arith}
 use mir.Syntax.{w8}
-use borrow.Author.Rules.{rules}
 use Rattle.messages.specs.Fields.{s7}
 use Rattle.write_lists.proofs.Laws.Places.{one, then_one}
 use Rattle.write_lists.proofs.scales.put_four_1.Goals as goal

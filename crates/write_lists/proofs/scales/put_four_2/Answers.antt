@@ -3,7 +3,6 @@
 use mathlib.Core.Path.{refl}
 use native.Mathlib.Omega.{arith}
 use mir.Syntax.{w16}
-use borrow.Author.Rules.{rules}
 use Rattle.messages.specs.Fields.{s14}
 use Rattle.write_lists.proofs.Laws.Places.{one, then_one}
 use Rattle.write_lists.proofs.scales.put_four_2.Goals as goal

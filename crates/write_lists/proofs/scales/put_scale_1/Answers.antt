@@ -3,7 +3,6 @@
 use mathlib.Core.Path.{refl, ◌∙◌}
 use native.Mathlib.Omega.{arith}
 use mir.Syntax.{w8}
-use borrow.Author.Rules.{rules}
 use Rattle.messages.specs.Fields.{s7}
 use Rattle.write_lists.proofs.Laws.Places.{none, then_four}
 use Rattle.write_lists.proofs.scales.put_scale_1.Goals as goal

@@ -1,7 +1,6 @@
 -- `write_lists::size::part_size` meets its contract, message by message.
 -- Assumes nothing.
 use native.Mathlib.Omega.{arith}
-use borrow.Author.Rules.{rules}
 use Rattle.write_lists.proofs.size.part_size.Goals as goal
 
 pub size_file-requires : goal.size_file-requires

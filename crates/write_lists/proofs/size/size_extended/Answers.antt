@@ -1,7 +1,6 @@
 -- `write_lists::size::size_extended` meets its contract, message by message.
 -- Assumes nothing.
 use native.Mathlib.Omega.{arith}
-use borrow.Author.Rules.{rules}
 use Rattle.write_lists.proofs.size.size_extended.Goals as goal
 
 pub returns-in-SampleName : goal.returns-in-SampleName

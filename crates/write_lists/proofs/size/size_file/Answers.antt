@@ -1,7 +1,6 @@
 -- `write_lists::size::size_file` meets its contract, message by message.
 -- Assumes nothing.
 use native.Mathlib.Omega.{arith}
-use borrow.Author.Rules.{rules}
 use Rattle.write_lists.proofs.size.size_file.Goals as goal
 
 pub overflow_add-result : goal.overflow_add-result

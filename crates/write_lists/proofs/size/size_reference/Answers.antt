@@ -1,7 +1,6 @@
 -- `write_lists::size::size_reference` meets its contract, message by message.
 -- Assumes nothing.
 use native.Mathlib.Omega.{arith}
-use borrow.Author.Rules.{rules}
 use Rattle.write_lists.proofs.Laws.Sizes.{size_select_most}
 use Rattle.write_lists.proofs.size.size_reference.Goals as goal
 

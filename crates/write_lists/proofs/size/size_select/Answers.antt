@@ -1,7 +1,6 @@
 -- `write_lists::size::size_select` meets its contract, kind by kind.
 -- Assumes nothing.
 use native.Mathlib.Omega.{arith}
-use borrow.Author.Rules.{rules}
 use Rattle.write_lists.proofs.size.size_select.Goals as goal
 
 pub returns-in-SoundFile : goal.returns-in-SoundFile

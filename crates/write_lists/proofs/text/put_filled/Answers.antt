@@ -6,7 +6,6 @@ use Prim.Native.Nat.{ℕ, ◌-◌}
 use native.Mathlib.Omega.{arith}
 use lib.Seq.{length-take-le}
 use lib.ListN.{length, take, replicate, length-replicate}
-use borrow.Author.Rules.{rules}
 use Rattle.util.proofs.Laws.Splice.{Run, run_part}
 use Rattle.write_lists.specs.Writing.{fill_to}
 use Rattle.write_lists.proofs.Laws.Fronts.{fronts}

@@ -1,10 +1,9 @@
 -- `write_lists::text::put_held` meets its contract. The invariant: the stores that are left, made on what is there, give what all stores give.
 -- Assumes nothing.
 use mathlib.Core.Path.{◌≡◌, refl, sym, ◌∙◌}
-use Prim.Native.Nat.{◌-◌, ◌≤◌, ◌<◌}
+use Prim.Native.Nat.{◌<◌}
 use native.Mathlib.Omega.{arith}
-use lib.Seq.{sets}
-use lib.ListN.{length, drop, length-set}
+use lib.ListN.{length, length-set}
 use borrow.Author.Rules.{rules}
 use Rattle.util.proofs.Laws.Splice.{store_turn, store_done}
 use Rattle.write_lists.specs.Writing.{fill_to}

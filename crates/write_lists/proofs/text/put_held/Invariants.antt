@@ -1,14 +1,10 @@
 -- `write_lists::text::put_held` meets its contract. The invariant: the stores that are left, made on what is there, give what all stores give.
 -- Assumes nothing.
-use mathlib.Core.Path.{◌≡◌, refl, sym, ◌∙◌}
-use Prim.Native.Nat.{◌-◌, ◌≤◌, ◌<◌}
-use native.Mathlib.Omega.{arith}
+use mathlib.Core.Path.{◌≡◌}
+use Prim.Native.Nat.{◌-◌, ◌≤◌}
 use lib.Seq.{sets}
-use lib.ListN.{length, drop, length-set}
-use borrow.Author.Rules.{rules}
-use Rattle.util.proofs.Laws.Splice.{store_turn, store_done}
+use lib.ListN.{length, drop}
 use Rattle.write_lists.specs.Writing.{fill_to}
-use Rattle.write_lists.proofs.Laws.Texts.{length_fill, get_d_fill}
 use Rattle.write_lists.proofs.text.put_held.Given as goal
 
 abbrev pub invariant-loop-i : goal.invariant-loop-i

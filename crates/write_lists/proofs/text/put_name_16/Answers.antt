@@ -1,7 +1,6 @@
 -- `write_lists::text::put_name_16` meets its contract: 16 bytes, filled with spaces.
 -- Assumes nothing.
 use mathlib.Core.Path.{refl, sym, ◌∙◌}
-use borrow.Author.Rules.{rules}
 use Rattle.write_lists.proofs.Laws.Fronts.{fronts}
 use Rattle.write_lists.proofs.Laws.Texts.{filled_is}
 use Rattle.write_lists.proofs.text.put_name_16.Goals as goal

@@ -6,7 +6,6 @@ use Prim.Native.Nat.{ℕ, ◌+◌, ◌-◌}
 use native.Mathlib.Omega.{arith}
 use lib.ListN.{length, set, length-set}
 use borrow.Rule.Slice.PartMut.{put_mid}
-use borrow.Author.Rules.{rules}
 use Rattle.util.proofs.Laws.Splice.{Run, run_length}
 use Rattle.write_lists.specs.Writing.{fill_to}
 use Rattle.write_lists.proofs.Laws.Fronts.{fronts, byte_room, byte_then}

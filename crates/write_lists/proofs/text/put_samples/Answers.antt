@@ -1,7 +1,6 @@
 -- `write_lists::text::put_samples` meets its contract: 120 bytes, filled with 00.
 -- Assumes nothing.
 use mathlib.Core.Path.{refl, sym, ◌∙◌}
-use borrow.Author.Rules.{rules}
 use Rattle.write_lists.proofs.Laws.Fronts.{fronts}
 use Rattle.write_lists.proofs.Laws.Texts.{filled_is}
 use Rattle.write_lists.proofs.text.put_samples.Goals as goal

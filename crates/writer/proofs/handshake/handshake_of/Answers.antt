@@ -1,6 +1,5 @@
 -- `writer::handshake::handshake_of` meets its contract, message by message.
 -- Assumes nothing.
-use borrow.Author.Rules.{rules}
 use Rattle.writer.proofs.handshake.handshake_of.Goals as goal
 
 pub returns-in-SampleDump : goal.returns-in-SampleDump

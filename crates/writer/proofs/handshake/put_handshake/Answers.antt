@@ -1,6 +1,5 @@
 -- `writer::handshake::put_handshake` meets its contract: the bytes are those of the frame, each value held to one group.
 -- Assumes nothing.
-use borrow.Author.Rules.{rules}
 use Rattle.write_fronts.proofs.Laws.{code, field, done, put}
 use Rattle.writer.specs.Frames.{wire}
 use Rattle.writer.proofs.handshake.put_handshake.Goals as goal

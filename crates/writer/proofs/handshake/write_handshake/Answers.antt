@@ -5,7 +5,6 @@ use mathlib.Core.Path.{sym, ap, ◌∙◌}
 use Prim.Native.Nat.{ℕ, ◌-◌}
 use native.Mathlib.Omega.{arith}
 use lib.ListN.{length, take, drop}
-use borrow.Author.Rules.{rules}
 use Rattle.util.specs.Splice.{overwritten}
 use Rattle.util.proofs.Laws.Splice.{tail_room, part_put}
 use Rattle.messages.specs.Fields.{device_byte}

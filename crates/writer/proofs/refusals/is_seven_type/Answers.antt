@@ -1,6 +1,5 @@
 -- `writer::refusals::is_seven_type` meets its contract: a named type's letters are below 128, and a custom type's are tested.
 -- Assumes nothing.
-use borrow.Author.Rules.{rules}
 use Rattle.writer.proofs.refusals.is_seven_type.Goals as goal
 
 pub returns-in-MIDI : goal.returns-in-MIDI

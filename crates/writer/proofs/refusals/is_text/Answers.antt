@@ -1,11 +1,8 @@
 -- `writer::refusals::is_text` meets its contract. The invariant: the bytes that are left are a text just where all bytes are.
 -- Assumes nothing.
-use mathlib.Core.Path.{◌≡◌, refl, sym, ◌∙◌}
-use Prim.Native.Nat.{◌≤◌, ◌-◌}
+use mathlib.Core.Path.{refl, sym, ◌∙◌}
 use native.Mathlib.Omega.{arith}
-use lib.ListN.{length, drop}
 use borrow.Author.Rules.{rules}
-use Rattle.messages.specs.format.Texts.{is_text}
 use Rattle.writer.proofs.Laws.Contents.{text_turn, text_zero, text_high, text_done}
 use Rattle.writer.proofs.refusals.is_text.Goals as goal
 

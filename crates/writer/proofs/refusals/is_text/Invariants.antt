@@ -1,12 +1,9 @@
 -- `writer::refusals::is_text` meets its contract. The invariant: the bytes that are left are a text just where all bytes are.
 -- Assumes nothing.
-use mathlib.Core.Path.{◌≡◌, refl, sym, ◌∙◌}
+use mathlib.Core.Path.{◌≡◌}
 use Prim.Native.Nat.{◌≤◌, ◌-◌}
-use native.Mathlib.Omega.{arith}
 use lib.ListN.{length, drop}
-use borrow.Author.Rules.{rules}
 use Rattle.messages.specs.format.Texts.{is_text}
-use Rattle.writer.proofs.Laws.Contents.{text_turn, text_zero, text_high, text_done}
 use Rattle.writer.proofs.refusals.is_text.Given as goal
 
 abbrev pub invariant-loop-i : goal.invariant-loop-i

@@ -1,7 +1,6 @@
 -- `writer::refusals::refused` meets its contract, message by message.
 -- Assumes nothing.
 use mathlib.Core.Path.{sym, ap, ◌∙◌}
-use borrow.Author.Rules.{rules}
 use Rattle.writer.specs.Write.{told}
 use Rattle.writer.proofs.Laws.Contents.{sample_none, request_none, keys_high, changes_long, midi_none}
 use Rattle.writer.proofs.refusals.refused.Goals as goal

@@ -1,6 +1,5 @@
 -- `writer::refusals::refused_bank` meets its contract, map by map.
 -- Assumes nothing.
-use borrow.Author.Rules.{rules}
 use Rattle.writer.proofs.refusals.refused_bank.Goals as goal
 
 pub returns-in-SoundFile : goal.returns-in-SoundFile

@@ -1,6 +1,5 @@
 -- `writer::refusals::refused_extended` meets its contract, message by message.
 -- Assumes nothing.
-use borrow.Author.Rules.{rules}
 use Rattle.writer.proofs.refusals.refused_extended.Goals as goal
 
 pub returns-in-SampleName : goal.returns-in-SampleName

@@ -1,6 +1,5 @@
 -- `writer::refusals::refused_file` meets its contract, message by message.
 -- Assumes nothing.
-use borrow.Author.Rules.{rules}
 use Rattle.writer.proofs.refusals.refused_file.Goals as goal
 
 pub returns-in-Header : goal.returns-in-Header

@@ -2,7 +2,6 @@
 -- Assumes nothing.
 use mathlib.Core.Path.{sym, ◌∙◌}
 use borrow.Author.Tests.{le-leb, lt-leb}
-use borrow.Author.Rules.{rules}
 use Rattle.writer.proofs.Laws.Contents.{header_order}
 use Rattle.writer.proofs.refusals.refused_header.Goals as goal
 

@@ -1,7 +1,6 @@
 -- `writer::refusals::refused_high` meets its contract: the test of the bytes is `seven`.
 -- Assumes nothing.
 use mathlib.Core.Path.{sym, ◌∙◌}
-use borrow.Author.Rules.{rules}
 use Rattle.writer.proofs.refusals.refused_high.Goals as goal
 
 pub returns-then-is_seven : goal.returns-then-is_seven

@@ -1,7 +1,6 @@
 -- `writer::refusals::refused_maker` meets its contract, maker by maker.
 -- Assumes nothing.
 use borrow.Author.Tests.{le-leb, lt-leb}
-use borrow.Author.Rules.{rules}
 use Rattle.writer.proofs.refusals.refused_maker.Goals as goal
 
 pub returns-then-b-ge1 : goal.returns-then-b-ge1

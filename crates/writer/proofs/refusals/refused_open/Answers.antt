@@ -2,7 +2,6 @@
 -- Assumes nothing.
 use mathlib.Core.Path.{sym, ap, ◌∙◌}
 use mathlib.Core.List.{[]}
-use borrow.Author.Rules.{rules}
 use Rattle.messages.specs.MessageOf.{any_select}
 use Rattle.writer.specs.Write.{told}
 use Rattle.writer.proofs.Laws.Contents.{high_kind}

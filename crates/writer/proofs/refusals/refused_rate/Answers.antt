@@ -1,7 +1,6 @@
 -- `writer::refusals::refused_rate` meets its contract: VALUE of the first number, or else of the second.
 -- Assumes nothing.
 use borrow.Author.Tests.{lt-ltb, le-ltb}
-use borrow.Author.Rules.{rules}
 use Rattle.writer.proofs.Laws.Contents.{value_order}
 use Rattle.writer.proofs.refusals.refused_rate.Goals as goal
 

@@ -1,7 +1,6 @@
 -- `writer::refusals::refused_reference` meets its contract, message by message.
 -- Assumes nothing.
 use mathlib.Core.Path.{sym, ap}
-use borrow.Author.Rules.{rules}
 use Rattle.writer.specs.Write.{told}
 use Rattle.writer.proofs.Laws.Contents.{select_none, kind_entries}
 use Rattle.writer.proofs.refusals.refused_reference.Goals as goal

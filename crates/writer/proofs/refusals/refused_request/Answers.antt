@@ -1,7 +1,6 @@
 -- `writer::refusals::refused_request` meets its contract: the tests go in the order of the table.
 -- Assumes nothing.
 use mathlib.Core.Path.{sym, ◌∙◌}
-use borrow.Author.Rules.{rules}
 use Rattle.writer.proofs.Laws.Contents.{request_order}
 use Rattle.writer.proofs.refusals.refused_request.Goals as goal
 

@@ -1,7 +1,6 @@
 -- `writer::refusals::refused_url` meets its contract: the test of the bytes is `is_text`.
 -- Assumes nothing.
 use mathlib.Core.Path.{sym, ◌∙◌}
-use borrow.Author.Rules.{rules}
 use Rattle.writer.proofs.refusals.refused_url.Goals as goal
 
 pub returns-then-is_text : goal.returns-then-is_text

@@ -1,6 +1,5 @@
 -- `writer::refusals::refused_wav` meets its contract, map by map.
 -- Assumes nothing.
-use borrow.Author.Rules.{rules}
 use Rattle.writer.proofs.refusals.refused_wav.Goals as goal
 
 pub returns-in-WAV : goal.returns-in-WAV

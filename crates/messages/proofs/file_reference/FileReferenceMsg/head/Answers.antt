@@ -1,6 +1,5 @@
 -- `messages::file_reference::FileReferenceMsg::head` meets its contract: each variant has the head of its case.
 -- Assumes nothing.
-use borrow.Author.Rules.{rules}
 use Rattle.messages.proofs.file_reference.FileReferenceMsg.head.Goals as goal
 
 pub returns-in-SelectContents : goal.returns-in-SelectContents

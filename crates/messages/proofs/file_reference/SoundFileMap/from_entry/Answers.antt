@@ -1,6 +1,5 @@
 -- `messages::file_reference::SoundFileMap::from_entry` meets its contract: the bank is held to 65,535, and a flag is a bit that is 1.
 -- Assumes nothing.
-use borrow.Author.Rules.{rules}
 use Prim.Native.Nat.{◌/◌, ◌%◌}
 use native.Mathlib.Omega.{arith}
 use Rattle.messages.proofs.Entries.{set_test}

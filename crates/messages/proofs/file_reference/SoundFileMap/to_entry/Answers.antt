@@ -1,6 +1,5 @@
 -- `messages::file_reference::SoundFileMap::to_entry` meets its contract: a flag is below 2, so the sum fits.
 -- Assumes nothing.
-use borrow.Author.Rules.{rules}
 use Prim.Native.Nat.{◌<◌}
 use native.Mathlib.Omega.{arith}
 use Rattle.messages.specs.declared.file_reference.SoundFileMap.{SoundFileMap}

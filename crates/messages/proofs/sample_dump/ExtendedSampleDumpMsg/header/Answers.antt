@@ -1,6 +1,5 @@
 -- `messages::sample_dump::ExtendedSampleDumpMsg::header` meets its contract: each arm returns the header with that answer of the split.
 -- Assumes nothing.
-use borrow.Author.Rules.{rules}
 use mathlib.Core.Path.{sym, ap, ◌∙◌}
 use Rattle.rates.specs.declared.SplitAnswer.{SplitAnswer}
 use Rattle.messages.specs.Header.{with_rate}

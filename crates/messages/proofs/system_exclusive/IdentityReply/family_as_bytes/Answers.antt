@@ -1,6 +1,5 @@
 -- `messages::system_exclusive::IdentityReply::family_as_bytes` meets its contract: two groups of each held number.
 -- Assumes nothing.
-use borrow.Author.Rules.{rules}
 use Rattle.messages.proofs.system_exclusive.IdentityReply.family_as_bytes.Goals as goal
 
 pub returns : goal.returns

@@ -4,7 +4,6 @@ use native.Mathlib.Omega.{arith}
 use lib.ListN.{length, get_or}
 use borrow.Author.Tests.{lt-ltb, le-ltb, eq-eqb, ne_eqb}
 use Rattle.messages.specs.Identity.{identity_of}
-use borrow.Author.Rules.{rules}
 use Rattle.messages.proofs.system_exclusive.UniversalNonRealTimeMsg.from_midi.Goals as goal
 
 pub returns-then-m-lt2 : goal.returns-then-m-lt2

@@ -1,6 +1,5 @@
 -- `UniversalNonRealTimeMsg::head` answers the head of the message: each arm is that of its module.
 -- Assumes nothing.
-use borrow.Author.Rules.{rules}
 use Rattle.messages.proofs.system_exclusive.UniversalNonRealTimeMsg.head.Goals as goal
 
 pub returns-in-SampleDump : goal.returns-in-SampleDump

@@ -1,6 +1,5 @@
 -- `messages::tuning::KeyTuning::from_entry` meets its contract: the key is held to 255, and the remainder is the tuning's entry.
 -- Assumes nothing.
-use borrow.Author.Rules.{rules}
 use Rattle.messages.proofs.tuning.KeyTuning.from_entry.Goals as goal
 
 pub returns : goal.returns

@@ -1,6 +1,5 @@
 -- `messages::tuning::MaybeTuning::from_entry` meets its contract: the test is that of the definition.
 -- Assumes nothing.
-use borrow.Author.Rules.{rules}
 use borrow.Author.Tests.{lt-ltb, le-ltb}
 use Rattle.messages.proofs.tuning.MaybeTuning.from_entry.Goals as goal
 
