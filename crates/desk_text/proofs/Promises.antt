@@ -1,16 +1,16 @@
 -- What words promise: the nearest step of the exact number.
 -- Assumes nothing.
-use mathlib.Core.Path.{◌≡◌, refl, sym, ap, ◌∙◌, subst}
-use mathlib.Core.Bool.{Bool, true, false, ◌&&◌}
+use mathlib.Core.Path.{◌≡◌, subst}
+use mathlib.Core.Bool.{◌&&◌}
 use mathlib.Core.List.{List}
-use Prim.Native.Nat.{ℕ, zero, suc, ◌+◌, ◌*◌, ◌/◌, ◌^◌, ◌≤◌, ◌<◌, min}
+use Prim.Native.Nat.{ℕ, ◌+◌, ◌*◌, ◌/◌, ◌^◌, ◌≤◌, ◌<◌, min}
 use native.Mathlib.Omega.{arith}
 use lib.Dec.{eqb}
 use lib.ListN.{length}
 use Rattle.desk_text.specs.declared.Number.TheVariants.{Is}
 use Rattle.desk_text.specs.Cents.{most, value_after, padded, are_digits, whole_of, decimals_of, joined_of, unsigned_of}
 use Rattle.desk_text.specs.Fractions.{step_16384, step_8192, nearest}
-use Rattle.desk_text.specs.Promises.{NearestTo, digits_of, places_of, NearestOfExact}
+use Rattle.desk_text.specs.Promises.{digits_of, places_of, NearestOfExact}
 use Rattle.desk_text.proofs.Laws.Digits.{and_right}
 use Rattle.desk_text.proofs.Laws.Exact.{from_digits, cut_bounds, nearest_exact, is_joined}
 

@@ -1,5 +1,5 @@
 -- Cents as parts of a semitone.
-use Rattle.std.specs.Prelude.{ℕ, ◌+◌, ◌*◌, ◌-◌, ◌/◌, ◌%◌, leb, ltb}
+use Rattle.std.specs.Prelude.{ℕ, ◌+◌, ◌*◌, ◌-◌, ◌/◌, ◌%◌, leb}
 use Rattle.util.specs.Limits.{keys}
 use Rattle.util.specs.Pick.{pick}
 use Rattle.desk_text.specs.declared.Number.{Number}

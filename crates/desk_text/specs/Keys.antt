@@ -1,5 +1,5 @@
 -- A word as a key.
-use Rattle.std.specs.Prelude.{Bool, true, false, ◌&&◌, ◌||◌, List, [], ◌∷◌, ◌++◌, ℕ, ◌+◌, ◌*◌, ◌-◌, ◌/◌, ◌%◌, eqb, leb, ltb, length, drop, get_or}
+use Rattle.std.specs.Prelude.{◌&&◌, List, [], ◌∷◌, ℕ, ◌+◌, ◌*◌, ◌-◌, eqb, leb, ltb, length, drop, get_or}
 use Rattle.util.specs.Limits.{keys}
 use Rattle.util.specs.Pick.{pick}
 use Rattle.desk_text.specs.declared.Number.{Number}

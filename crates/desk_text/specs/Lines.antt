@@ -1,5 +1,5 @@
 -- Lines and words of text.
-use Rattle.std.specs.Prelude.{Bool, true, false, ◌&&◌, ◌||◌, List, [], ◌∷◌, ℕ, zero, suc, ◌+◌, eqb, length, take, drop, get_or}
+use Rattle.std.specs.Prelude.{Bool, true, ◌&&◌, ◌||◌, List, [], ◌∷◌, ℕ, zero, suc, ◌+◌, eqb, length, take, drop, get_or}
 use Rattle.util.specs.Pick.{pick}
 use Rattle.desk_text.specs.declared.spans.Until.TheVariants.{Blank, Word}
 use Rattle.desk_text.specs.Spans.{is_line_end, is_blank, is_three, stops, span}

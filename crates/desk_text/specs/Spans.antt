@@ -1,5 +1,5 @@
 -- Stretches of bytes, by the byte that ends them.
-use Rattle.std.specs.Prelude.{Bool, true, false, ◌&&◌, ◌||◌, not, List, [], ◌∷◌, ℕ, suc, ◌+◌, eqb, leb, get_or}
+use Rattle.std.specs.Prelude.{Bool, ◌&&◌, ◌||◌, not, List, [], ◌∷◌, ℕ, suc, eqb, leb, get_or}
 use Rattle.util.specs.Pick.{pick}
 use Rattle.desk_text.specs.declared.spans.Until.{Until}
 use Rattle.desk_text.specs.declared.spans.Until.TheVariants.{LineEnd, Blank, Word, Point, Other}

@@ -1,11 +1,6 @@
 -- `desk_text::digits` meets its contract. The invariant: what the digits from i on say after n is what all digits say.
 -- Assumes nothing.
-use mathlib.Core.Path.{◌≡◌}
-use lib.ListN.{length, drop}
-use Prim.Native.Nat.{◌-◌}
-use borrow.Author.Rules.{rules}
 use mathlib.Core.Path.{refl, sym, ◌∙◌}
-use Rattle.desk_text.specs.Decimal.{after}
 use Rattle.desk_text.proofs.Laws.Numbers.{after_low, after_high, after_large, after_digit, after_end}
 use Rattle.desk_text.proofs.digits.Goals as goal
 

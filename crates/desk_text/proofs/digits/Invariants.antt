@@ -3,10 +3,7 @@
 use mathlib.Core.Path.{◌≡◌}
 use lib.ListN.{length, drop}
 use Prim.Native.Nat.{◌-◌}
-use borrow.Author.Rules.{rules}
-use mathlib.Core.Path.{refl, sym, ◌∙◌}
 use Rattle.desk_text.specs.Decimal.{after}
-use Rattle.desk_text.proofs.Laws.Numbers.{after_low, after_high, after_large, after_digit, after_end}
 use Rattle.desk_text.proofs.digits.Given as goal
 
 abbrev pub invariant-loop-i : goal.invariant-loop-i

@@ -1,6 +1,5 @@
 -- `desk_text::parse` meets its contract: a word without a byte is no number, another is what its digits say.
 -- Assumes nothing.
-use borrow.Author.Rules.{rules}
 use mathlib.Core.Path.{◌∙◌}
 use Rattle.desk_text.proofs.Laws.Numbers.{number_none, number_some}
 use Rattle.desk_text.proofs.parse.Goals as goal

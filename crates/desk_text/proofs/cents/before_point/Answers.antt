@@ -8,7 +8,6 @@ use Prim.Native.Nat.{ℕ}
 use native.Mathlib.Omega.{arith}
 use lib.ListN.{take}
 use Rattle.desk_text.specs.Cents.{whole_of}
-use borrow.Author.Rules.{rules}
 use Rattle.desk_text.proofs.cents.before_point.Goals as goal
 
 pub returns : goal.returns

@@ -10,7 +10,6 @@ use Rattle.desk_text.specs.declared.spans.Until.TheVariants.{Point}
 use Rattle.desk_text.specs.Spans.{stops, span}
 use Rattle.desk_text.specs.Cents.{decimals_of}
 use Rattle.desk_text.proofs.Laws.Spans.{rest_of}
-use borrow.Author.Rules.{rules}
 use Rattle.desk_text.proofs.cents.behind_point.Goals as goal
 
 pub returns-then-n-p : goal.returns-then-n-p

@@ -3,7 +3,6 @@
 use mathlib.Core.Path.{sym}
 use lib.ListN.{get_or-eq_default}
 use Rattle.desk_text.proofs.Laws.Digits.{same_within}
-use borrow.Author.Rules.{rules}
 use Rattle.desk_text.proofs.cents.digit_at.Goals as goal
 
 pub returns-then-i-s : goal.returns-then-i-s

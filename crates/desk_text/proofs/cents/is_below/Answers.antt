@@ -2,7 +2,6 @@
 -- Assumes nothing.
 use borrow.Author.Tests.{eq-eqb, ne_eqb}
 use Rattle.desk_text.specs.Cents.{is_minus}
-use borrow.Author.Rules.{rules}
 use Rattle.desk_text.proofs.cents.is_below.Goals as goal
 
 pub returns-then-at-eq45 : goal.returns-then-at-eq45

@@ -6,7 +6,6 @@ use native.Mathlib.Omega.{arith}
 use lib.Dec.{eqb}
 use lib.ListN.{length}
 use Rattle.desk_text.specs.Cents.{are_digits}
-use borrow.Author.Rules.{rules}
 use Rattle.desk_text.proofs.cents.is_digits.Goals as goal
 
 pub returns : goal.returns

@@ -1,12 +1,9 @@
 -- `desk_text::cents::joined` meets its contract: the tests are those of the definition.
 -- Assumes nothing.
-use borrow.Author.Tests.{not-true, not-false}
-use mathlib.Core.Path.{◌≡◌, sym, ap, ◌∙◌}
-use mathlib.Core.Bool.{true, false}
+use mathlib.Core.Path.{sym, ap, ◌∙◌}
 use Rattle.desk_text.specs.declared.Number.TheVariants.{Is}
-use Rattle.desk_text.specs.Cents.{are_digits, joined_of}
+use Rattle.desk_text.specs.Cents.{joined_of}
 use Rattle.desk_text.proofs.Laws.Digits.{joined_value}
-use borrow.Author.Rules.{rules}
 use Rattle.desk_text.proofs.cents.joined.Goals as goal
 
 pub returns-then-not-is_digits : goal.returns-then-not-is_digits

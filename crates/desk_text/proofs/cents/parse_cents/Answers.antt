@@ -5,7 +5,6 @@ use Prim.Native.Nat.{ℕ}
 use lib.ListN.{drop}
 use Rattle.desk_text.specs.Cents.{unsigned_of, with_sign_of, cents_of}
 use Rattle.desk_text.proofs.Laws.Spans.{rest_of}
-use borrow.Author.Rules.{rules}
 use Rattle.desk_text.proofs.cents.parse_cents.Goals as goal
 
 pub returns : goal.returns

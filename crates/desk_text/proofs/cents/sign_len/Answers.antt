@@ -3,7 +3,6 @@
 use borrow.Author.Tests.{eq-eqb, ne_eqb}
 use mathlib.Core.Path.{sym, ◌∙◌}
 use Rattle.desk_text.specs.Cents.{sign_length}
-use borrow.Author.Rules.{rules}
 use Rattle.desk_text.proofs.cents.sign_len.Goals as goal
 
 pub returns-then-at-eq43 : goal.returns-then-at-eq43

@@ -2,7 +2,6 @@
 -- Assumes nothing.
 use mathlib.Core.Path.{◌∙◌, ap₂}
 use Rattle.desk_text.specs.Cents.{joined_of, unsigned_of}
-use borrow.Author.Rules.{rules}
 use Rattle.desk_text.proofs.cents.unsigned.Goals as goal
 
 pub returns : goal.returns

@@ -2,9 +2,8 @@
 -- Assumes nothing.
 use lib.ListN.{get_or}
 use borrow.Author.Rules.{rules}
-use mathlib.Core.Path.{◌≡◌, refl, sym, ap, ◌∙◌}
-use mathlib.Core.List.{List, ◌∷◌}
-use Prim.Native.Nat.{ℕ, suc, ◌+◌, ◌*◌, ◌-◌, ◌≤◌, min}
+use mathlib.Core.Path.{◌≡◌, sym, ap, ◌∙◌}
+use Prim.Native.Nat.{ℕ, ◌+◌, ◌*◌, ◌-◌, min}
 use native.Mathlib.Omega.{arith}
 use lib.ListN.{drop}
 use Rattle.desk_text.specs.Cents.{most, value_after, padded}

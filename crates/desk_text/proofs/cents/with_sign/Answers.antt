@@ -1,7 +1,6 @@
 -- `desk_text::cents::with_sign` meets its contract, by cases.
 -- Assumes nothing.
 use Rattle.desk_text.specs.Cents.{with_sign_of}
-use borrow.Author.Rules.{rules}
 use Rattle.desk_text.proofs.cents.with_sign.Goals as goal
 
 pub returns-then-is_below : goal.returns-then-is_below

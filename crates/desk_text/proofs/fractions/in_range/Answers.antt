@@ -1,7 +1,6 @@
 -- `desk_text::fractions::in_range` meets its contract: the test is that of the definition.
 -- Assumes nothing.
 use mathlib.Core.Path.{ap}
-use borrow.Author.Rules.{rules}
 use borrow.Author.Tests.{le-leb, lt-leb}
 use Rattle.desk_text.specs.declared.Number.TheVariants.{Is}
 use Rattle.desk_text.proofs.fractions.in_range.Goals as goal

@@ -1,11 +1,9 @@
 -- `desk_text::fractions::lowered` meets its contract: more than the most is below every pitch.
 -- Assumes nothing.
 use borrow.Author.Tests.{le-leb, lt-leb}
-use mathlib.Core.Path.{◌∙◌, ap}
-use Prim.Native.Nat.{ℕ, ◌-◌, ◌<◌}
+use Prim.Native.Nat.{◌<◌}
 use native.Mathlib.Omega.{arith}
-use Rattle.desk_text.specs.Fractions.{step_16384, nearest, highest, tuning_entry, lowered_entry}
-use borrow.Author.Rules.{rules}
+use Rattle.desk_text.specs.Fractions.{step_16384, nearest, lowered_entry}
 use Rattle.desk_text.proofs.fractions.lowered.Goals as goal
 
 pub returns-then-n-pitch : goal.returns-then-n-pitch

@@ -5,7 +5,6 @@ use mathlib.Core.Path.{◌∙◌, ap}
 use Prim.Native.Nat.{ℕ, ◌+◌, ◌<◌}
 use native.Mathlib.Omega.{arith}
 use Rattle.desk_text.specs.Fractions.{step_16384, nearest, highest, tuning_entry, raised_entry}
-use borrow.Author.Rules.{rules}
 use Rattle.desk_text.proofs.fractions.raised.Goals as goal
 
 pub returns-then-a-le-MOST : goal.returns-then-a-le-MOST

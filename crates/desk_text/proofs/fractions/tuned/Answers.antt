@@ -3,7 +3,6 @@
 use Rattle.desk_text.specs.Fractions.{changed_entry}
 use borrow.Author.Tests.{le-leb, lt-leb}
 use Rattle.desk_text.specs.Fractions.{tuned_entry}
-use borrow.Author.Rules.{rules}
 use Rattle.desk_text.proofs.fractions.tuned.Goals as goal
 
 pub returns-then-key : goal.returns-then-key

@@ -4,7 +4,6 @@ use borrow.Author.Tests.{eq-eqb, ne_eqb}
 use mathlib.Core.Path.{◌∙◌}
 use Rattle.desk_text.specs.Keys.{octave_part}
 use Rattle.desk_text.proofs.Laws.Spans.{rest_of}
-use borrow.Author.Rules.{rules}
 use Rattle.desk_text.proofs.keys.behind_letter.Goals as goal
 
 pub returns-then-shift_of-eq1 : goal.returns-then-shift_of-eq1

@@ -2,7 +2,6 @@
 -- Assumes nothing.
 use borrow.Author.Tests.{le-leb, lt-leb}
 use Rattle.desk_text.specs.Keys.{capital}
-use borrow.Author.Rules.{rules}
 use Rattle.desk_text.proofs.keys.capital_of.Goals as goal
 
 pub returns-then-b-ge97 : goal.returns-then-b-ge97

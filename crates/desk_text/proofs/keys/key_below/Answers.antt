@@ -2,7 +2,6 @@
 -- Assumes nothing.
 use borrow.Author.Tests.{eq-eqb, ne_eqb}
 use Rattle.desk_text.specs.Keys.{key_at}
-use borrow.Author.Rules.{rules}
 use Rattle.desk_text.proofs.keys.key_below.Goals as goal
 
 pub returns-then-n-eq0 : goal.returns-then-n-eq0

@@ -2,7 +2,6 @@
 -- Assumes nothing.
 use native.Mathlib.Omega.{arith}
 use Rattle.desk_text.proofs.Laws.KeyNames.{above_keys}
-use borrow.Author.Rules.{rules}
 use Rattle.desk_text.proofs.keys.key_sum.Goals as goal
 
 pub returns-then-octave-gt128 : goal.returns-then-octave-gt128

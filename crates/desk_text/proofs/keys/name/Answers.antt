@@ -7,7 +7,6 @@ use Rattle.desk_text.specs.declared.Number.{Number}
 use Rattle.desk_text.specs.Keys.{semitone, shift, octave, named_of}
 use mathlib.Core.Path.{◌∙◌}
 use Rattle.desk_text.specs.Keys.{name_of}
-use borrow.Author.Rules.{rules}
 use Rattle.desk_text.proofs.keys.name.Goals as goal
 
 pub returns : goal.returns

@@ -1,7 +1,6 @@
 -- `desk_text::keys::named` meets its contract, by cases.
 -- Assumes nothing.
 use Rattle.desk_text.specs.Keys.{named_of}
-use borrow.Author.Rules.{rules}
 use Rattle.desk_text.proofs.keys.named.Goals as goal
 
 pub returns-in-Is-octave : goal.returns-in-Is-octave

@@ -6,7 +6,6 @@ use native.Mathlib.Omega.{arith}
 use lib.ListN.{length}
 use Rattle.desk_text.specs.Keys.{octave}
 use Rattle.desk_text.proofs.Laws.Digits.{digit_least}
-use borrow.Author.Rules.{rules}
 use Rattle.desk_text.proofs.keys.octave_of.Goals as goal
 
 pub overflow_sub-result : goal.overflow_sub-result

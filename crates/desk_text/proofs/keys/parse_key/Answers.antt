@@ -2,7 +2,6 @@
 -- Assumes nothing.
 use mathlib.Core.Path.{sym, ◌∙◌}
 use Rattle.desk_text.specs.Keys.{key_or_name, key_of}
-use borrow.Author.Rules.{rules}
 use Rattle.desk_text.proofs.keys.parse_key.Goals as goal
 
 pub returns-in-Is : goal.returns-in-Is

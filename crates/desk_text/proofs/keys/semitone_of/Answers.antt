@@ -1,8 +1,7 @@
 -- `desk_text::keys::semitone_of` meets its contract: the tests and the table are those of the definition.
 -- Assumes nothing.
 use borrow.Author.Tests.{le-leb, lt-leb}
-use Rattle.desk_text.specs.Keys.{capital, semitone}
-use borrow.Author.Rules.{rules}
+use Rattle.desk_text.specs.Keys.{semitone}
 use Rattle.desk_text.proofs.keys.semitone_of.Goals as goal
 
 pub returns-then-c-lt65 : goal.returns-then-c-lt65

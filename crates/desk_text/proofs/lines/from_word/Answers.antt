@@ -9,7 +9,6 @@ use native.Mathlib.Omega.{arith}
 use lib.ListN.{drop}
 use Rattle.desk_text.specs.Lines.{from_word}
 use Rattle.desk_text.proofs.Laws.Spans.{rest_of}
-use borrow.Author.Rules.{rules}
 use Rattle.desk_text.proofs.lines.from_word.Goals as goal
 
 pub returns : goal.returns

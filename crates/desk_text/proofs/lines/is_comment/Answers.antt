@@ -1,6 +1,6 @@
 -- `desk_text::lines::is_comment` meets its contract: the tests are those of the definition.
 -- Assumes nothing.
-use borrow.Author.Tests.{eq-eqb, ne_eqb, not-true, not-false}
+use borrow.Author.Tests.{eq-eqb, ne_eqb}
 use borrow.Author.Tests.{eq-eqb, ne_eqb}
 use Rattle.desk_text.specs.Lines.{begins_comment}
 use Rattle.desk_text.proofs.lines.is_comment.Goals as goal

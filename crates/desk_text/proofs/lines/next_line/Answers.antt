@@ -2,12 +2,10 @@
 -- Assumes nothing.
 use borrow.Author.Tests.{eq-eqb, ne_eqb}
 use mathlib.Core.Path.{◌≡◌, ◌∙◌}
-use Prim.Native.Nat.{◌<◌, ◌≤◌, ◌+◌}
 use native.Mathlib.Omega.{arith}
-use lib.ListN.{length, drop, get_or, get_or-eq_default}
+use lib.ListN.{drop, get_or-eq_default}
 use Rattle.desk_text.specs.Lines.{end_length}
 use Rattle.desk_text.proofs.Laws.Spans.{end_past, end_at, end_one}
-use borrow.Author.Rules.{rules}
 use Rattle.desk_text.proofs.lines.next_line.Goals as goal
 
 pub returns-then-s-end : goal.returns-then-s-end

@@ -4,7 +4,6 @@ use mathlib.Core.Path.{◌∙◌, ap}
 use Prim.Native.Nat.{ℕ}
 use lib.ListN.{take}
 use Rattle.desk_text.specs.Lines.{said_part}
-use borrow.Author.Rules.{rules}
 use Rattle.desk_text.proofs.lines.said.Goals as goal
 
 pub returns : goal.returns

@@ -1,13 +1,10 @@
 -- `desk_text::lines::said_end` meets its contract. The invariant: what is left from i on says where the whole ends.
 -- Assumes nothing.
-use borrow.Author.Rules.{rules}
-use mathlib.Core.Path.{◌≡◌, refl, sym, ap, ◌∙◌}
-use mathlib.Core.Bool.{Bool, true}
-use Prim.Native.Nat.{ℕ, ◌+◌, ◌-◌}
-use native.Mathlib.Omega.{arith}
+use mathlib.Core.Path.{◌≡◌}
+use mathlib.Core.Bool.{true}
+use Prim.Native.Nat.{◌+◌, ◌-◌}
 use lib.ListN.{length, drop}
 use Rattle.desk_text.specs.Lines.{said_length}
-use Rattle.desk_text.proofs.Laws.Spans.{said_past, said_stop, said_more}
 use Rattle.desk_text.proofs.lines.said_end.Given as goal
 
 abbrev pub invariant-loop-i : goal.invariant-loop-i

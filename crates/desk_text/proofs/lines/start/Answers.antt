@@ -1,8 +1,6 @@
 -- `desk_text::lines::start` meets its contract: the test is that of the definition.
 -- Assumes nothing.
-use mathlib.Core.Path.{sym}
 use Rattle.desk_text.specs.Lines.{mark_length}
-use borrow.Author.Rules.{rules}
 use Rattle.desk_text.proofs.lines.start.Goals as goal
 
 pub returns-then-is_three : goal.returns-then-is_three

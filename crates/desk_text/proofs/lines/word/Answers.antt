@@ -8,7 +8,6 @@ use Prim.Native.Nat.{ℕ}
 use native.Mathlib.Omega.{arith}
 use lib.ListN.{take}
 use Rattle.desk_text.specs.Lines.{word_of}
-use borrow.Author.Rules.{rules}
 use Rattle.desk_text.proofs.lines.word.Goals as goal
 
 pub returns : goal.returns

@@ -2,7 +2,6 @@
 -- Assumes nothing.
 use borrow.Author.Tests.{eq-eqb, ne_eqb}
 use Rattle.desk_text.specs.Spans.{is_blank}
-use borrow.Author.Rules.{rules}
 use Rattle.desk_text.proofs.spans.is_blank.Goals as goal
 
 pub returns-then-b-eq32 : goal.returns-then-b-eq32

@@ -3,7 +3,6 @@
 use mathlib.Core.Bool.{not}
 use mathlib.Core.Path.{ap}
 use Rattle.desk_text.specs.Spans.{stops}
-use borrow.Author.Rules.{rules}
 use Rattle.desk_text.proofs.spans.is_stop.Goals as goal
 
 pub returns-in-LineEnd : goal.returns-in-LineEnd

@@ -2,7 +2,6 @@
 -- Assumes nothing.
 use borrow.Author.Tests.{eq-eqb, ne_eqb}
 use Rattle.desk_text.specs.Spans.{is_three}
-use borrow.Author.Rules.{rules}
 use Rattle.desk_text.proofs.spans.is_three.Goals as goal
 
 pub returns-then-at-a : goal.returns-then-at-a

@@ -1,11 +1,8 @@
 -- `desk_text::spans::span_end` meets its contract. The invariant: the stretch that is left from i on ends where the whole ends.
 -- Assumes nothing.
-use borrow.Author.Rules.{rules}
-use mathlib.Core.Path.{◌≡◌, refl, sym, ◌∙◌}
-use Prim.Native.Nat.{◌+◌, ◌-◌}
+use mathlib.Core.Path.{refl, sym, ◌∙◌}
 use native.Mathlib.Omega.{arith}
-use lib.ListN.{length, drop}
-use Rattle.desk_text.specs.Spans.{stops, span}
+use Rattle.desk_text.specs.Spans.{stops}
 use Rattle.desk_text.proofs.Laws.Spans.{span_past, span_stop, span_more}
 use Rattle.desk_text.proofs.spans.span_end.Goals as goal
 
