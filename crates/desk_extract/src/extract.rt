@@ -313,6 +313,14 @@ pub fn extract(out: &mut Output, path: &[u8], kind: Kind, offset: u64, to: &[u8]
         return;
     };
     let mut room = io::large_buffer();
-    extract_open(out, &mut source, path, kind, offset, &mut room[0..PIECE], to);
+    extract_open(
+        out,
+        &mut source,
+        path,
+        kind,
+        offset,
+        &mut room[0..PIECE],
+        to,
+    );
     pieces::close(source);
 }

@@ -172,7 +172,13 @@ pub fn no_message(out: &mut Output, path: &[u8], offset: u64) {
 }
 
 // Reads the bytes of an open file from an offset on; none, and a line that says why, where that fails.
-pub fn read_open(out: &mut Output, source: &mut Source, path: &[u8], offset: u64, room: &mut [u8]) -> usize
+pub fn read_open(
+    out: &mut Output,
+    source: &mut Source,
+    path: &[u8],
+    offset: u64,
+    room: &mut [u8],
+) -> usize
     ensures { result ≤ length room.old }
 {
     if !pieces::seek(source, room, offset) {

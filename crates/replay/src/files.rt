@@ -59,7 +59,13 @@ fn unreadable(rt: HostRuntime, p: Progress, name: &[u8]) -> Progress {
 }
 
 // Moves the rest of the buffer to its start, and reads more bytes of the file behind it.
-fn read_more(rt: HostRuntime, p: Progress, source: &mut Source, name: &[u8], room: &mut [u8]) -> Progress {
+fn read_more(
+    rt: HostRuntime,
+    p: Progress,
+    source: &mut Source,
+    name: &[u8],
+    room: &mut [u8],
+) -> Progress {
     let len = at_most(p.len, room.len());
     let at = at_most(p.at, len);
     let held = Piece {
@@ -79,7 +85,13 @@ fn read_more(rt: HostRuntime, p: Progress, source: &mut Source, name: &[u8], roo
 }
 
 // Goes on where the buffer ends inside a case. A file that is not at its end fills the buffer, which no case does.
-fn go_on(rt: HostRuntime, p: Progress, source: &mut Source, name: &[u8], room: &mut [u8]) -> Progress {
+fn go_on(
+    rt: HostRuntime,
+    p: Progress,
+    source: &mut Source,
+    name: &[u8],
+    room: &mut [u8],
+) -> Progress {
     let mut q = p;
     if 0 < p.at {
         return read_more(rt, p, source, name, room);
@@ -134,7 +146,13 @@ fn replay_next(rt: HostRuntime, s: &[u8], p: Progress, name: &[u8]) -> Progress 
 }
 
 // Replays the next case, or reads more.
-fn turn(rt: HostRuntime, p: Progress, source: &mut Source, name: &[u8], room: &mut [u8]) -> Progress {
+fn turn(
+    rt: HostRuntime,
+    p: Progress,
+    source: &mut Source,
+    name: &[u8],
+    room: &mut [u8],
+) -> Progress {
     let q = replay_next(rt, sub_slice(room, 0, p.len), p, name);
     if q.is_cut {
         return go_on(rt, q, source, name, room);
@@ -143,7 +161,13 @@ fn turn(rt: HostRuntime, p: Progress, source: &mut Source, name: &[u8], room: &m
 }
 
 // Replays an open file. Nothing says that a file ends, so the turns are counted down from a number that no run uses up.
-fn replay_open(rt: HostRuntime, source: &mut Source, name: &[u8], room: &mut [u8], start: Progress) -> Progress {
+fn replay_open(
+    rt: HostRuntime,
+    source: &mut Source,
+    name: &[u8],
+    room: &mut [u8],
+    start: Progress,
+) -> Progress {
     let mut p = read_more(rt, start, source, name, room);
     let mut turns = u64::MAX;
     while turns > 0 {

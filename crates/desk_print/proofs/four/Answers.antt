@@ -2,7 +2,6 @@
 -- Assumes nothing.
 use Rattle.desk_print.proofs.Laws.{put_put, put_as}
 use Rattle.desk_print.proofs.Texts.{four_as}
-use borrow.Author.Rules.{rules}
 use Rattle.desk_print.proofs.four.Goals as goal
 
 pub returns : goal.returns

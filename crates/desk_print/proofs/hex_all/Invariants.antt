@@ -1,12 +1,9 @@
 -- `desk_print::hex_all` meets its contract. The invariant: the texts of the bytes so far are put.
 -- Assumes nothing.
-use Rattle.desk_print.proofs.Laws.{put_put}
 use Prim.Native.Nat.{◌≤◌, ◌-◌}
 use lib.ListN.{length, take}
 use Rattle.desk_print.specs.Output.{Put}
 use Rattle.desk_print.specs.Text.{each, spaced_hex}
-use Rattle.desk_print.proofs.Texts.{each_begin, each_turn, each_end}
-use borrow.Author.Rules.{rules}
 use Rattle.desk_print.proofs.hex_all.Given as goal
 
 abbrev pub invariant-loop-i : goal.invariant-loop-i

@@ -1,7 +1,6 @@
 -- `desk_print::hex_digit` meets its contract. By the test of the number.
 -- Assumes nothing.
 use Rattle.desk_print.proofs.Texts.{hex_low, hex_high}
-use borrow.Author.Rules.{rules}
 use Rattle.desk_print.proofs.hex_digit.Goals as goal
 
 pub returns-then-n-lt10 : goal.returns-then-n-lt10

@@ -4,7 +4,6 @@ use mathlib.Core.Path.{◌∙◌}
 use native.Mathlib.Omega.{arith}
 use Rattle.desk_print.proofs.Laws.{put_as}
 use Rattle.desk_print.proofs.Texts.{decimal_is}
-use borrow.Author.Rules.{rules}
 use Rattle.desk_print.proofs.number.Goals as goal
 
 pub returns : goal.returns

@@ -2,7 +2,6 @@
 -- Assumes nothing.
 use Rattle.desk_print.proofs.Laws.{put_as}
 use Rattle.desk_print.proofs.Texts.{three_as}
-use borrow.Author.Rules.{rules}
 use Rattle.desk_print.proofs.three.Goals as goal
 
 pub returns : goal.returns

@@ -2,7 +2,6 @@
 -- Assumes nothing.
 use borrow.Author.Tests.{eq-eqb, ne_eqb}
 use Rattle.desk_io.specs.Names.{is_dash}
-use borrow.Author.Rules.{rules}
 use Rattle.desk_io.proofs.names.is_dash.Goals as goal
 
 pub returns-then-path-eq1 : goal.returns-then-path-eq1

@@ -4,10 +4,9 @@ use borrow.Author.Rules.{rules}
 use borrow.Author.Tests.{eqb-false}
 use mathlib.Core.Path.{◌≡◌, refl, sym, ◌∙◌}
 use mathlib.Core.Bool.{false}
-use Prim.Native.Nat.{ℕ, zero, suc, ◌≤◌, ◌-◌}
+use Prim.Native.Nat.{ℕ, zero, suc, ◌≤◌}
 use native.Mathlib.Omega.{arith}
 use lib.Dec.{eqb}
-use lib.ListN.{length}
 use Rattle.desk_io.proofs.pieces.read_all.Goals as goal
 
 not_zero : (n : ℕ) → eqb n 0 ≡ false → 1 ≤ n

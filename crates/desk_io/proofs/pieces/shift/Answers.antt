@@ -1,10 +1,9 @@
 -- `desk_io::pieces::shift` meets its contract. The invariant: each byte before i is the one of its place, and each byte from i on is as it was.
 -- Assumes nothing.
-use borrow.Author.Rules.{rules}
-use mathlib.Core.Path.{◌≡◌, refl, ◌∙◌}
-use Prim.Native.Nat.{ℕ, ◌+◌, ◌-◌, ◌≤◌, ◌<◌}
+use mathlib.Core.Path.{refl, ◌∙◌}
+use Prim.Native.Nat.{ℕ, ◌+◌}
 use native.Mathlib.Omega.{arith}
-use lib.ListN.{length, get_or, length-set}
+use lib.ListN.{get_or, length-set}
 use lib.Seq.{get_or-set_other}
 use Rattle.util.proofs.Laws.Stores.{store_more}
 use Rattle.desk_io.proofs.pieces.shift.Goals as goal

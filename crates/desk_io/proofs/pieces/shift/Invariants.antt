@@ -1,12 +1,8 @@
 -- `desk_io::pieces::shift` meets its contract. The invariant: each byte before i is the one of its place, and each byte from i on is as it was.
 -- Assumes nothing.
-use borrow.Author.Rules.{rules}
-use mathlib.Core.Path.{◌≡◌, refl, ◌∙◌}
+use mathlib.Core.Path.{◌≡◌}
 use Prim.Native.Nat.{ℕ, ◌+◌, ◌-◌, ◌≤◌, ◌<◌}
-use native.Mathlib.Omega.{arith}
-use lib.ListN.{length, get_or, length-set}
-use lib.Seq.{get_or-set_other}
-use Rattle.util.proofs.Laws.Stores.{store_more}
+use lib.ListN.{length, get_or}
 use Rattle.desk_io.proofs.pieces.shift.Given as goal
 
 abbrev pub invariant-loop-i : goal.invariant-loop-i

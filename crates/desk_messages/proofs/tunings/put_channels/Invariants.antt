@@ -1,7 +1,6 @@
 -- `desk_messages::tunings::put_channels` is safe and ends. The invariant: at most all channels are passed.
 -- Assumes nothing.
 use Prim.Native.Nat.{◌≤◌, ◌-◌}
-use borrow.Author.Rules.{rules}
 use Rattle.desk_messages.proofs.tunings.put_channels.Given as goal
 
 abbrev pub invariant-loop-c : goal.invariant-loop-c

@@ -1,7 +1,6 @@
 -- `desk_print::cents::decimals` meets its contract. A sign, the whole part, a point and four digits.
 -- Assumes nothing.
 use Rattle.desk_print.proofs.Laws.{put_put}
-use borrow.Author.Rules.{rules}
 use Rattle.desk_print.proofs.cents.decimals.Goals as goal
 
 pub returns : goal.returns

@@ -1,6 +1,5 @@
 -- `desk_print::cents::difference` meets its contract, by the test of the two numbers.
 -- Assumes nothing.
-use borrow.Author.Rules.{rules}
 use borrow.Author.Tests.{lt-ltb, le-ltb}
 use native.Mathlib.Omega.{arith}
 use Rattle.desk_print.proofs.cents.difference.Goals as goal

@@ -3,7 +3,6 @@
 use mathlib.Core.Path.{sym, ap}
 use Rattle.desk_print.specs.Text.{sign_of}
 use Rattle.desk_print.proofs.Laws.{put_as}
-use borrow.Author.Rules.{rules}
 use Rattle.desk_print.proofs.cents.put_sign.Goals as goal
 
 pub returns-then-is_below : goal.returns-then-is_below

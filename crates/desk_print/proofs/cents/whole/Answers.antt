@@ -1,7 +1,6 @@
 -- `desk_print::cents::whole` meets its contract. A sign, and then a number.
 -- Assumes nothing.
 use Rattle.desk_print.proofs.Laws.{put_put}
-use borrow.Author.Rules.{rules}
 use Rattle.desk_print.proofs.cents.whole.Goals as goal
 
 pub returns : goal.returns

@@ -7,7 +7,6 @@ use native.Mathlib.Omega.{arith}
 use lib.Dec.{eqb}
 use lib.ListN.{get_or}
 use Rattle.desk_print.proofs.Texts.{control_low, control_delete, not_control_low, not_control_high, control_second, get_d_before}
-use borrow.Author.Rules.{rules}
 use Rattle.desk_print.proofs.names.is_control.Goals as goal
 
 pub returns-then-b-lt32 : goal.returns-then-b-lt32

@@ -2,7 +2,6 @@
 -- Assumes nothing.
 use Rattle.desk_print.proofs.Laws.{put_put, put_as}
 use Rattle.desk_print.proofs.Texts.{octave_low, octave_high}
-use borrow.Author.Rules.{rules}
 use Rattle.desk_print.proofs.names.key.Goals as goal
 
 pub returns-then-k-lt12 : goal.returns-then-k-lt12

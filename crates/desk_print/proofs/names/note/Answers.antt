@@ -5,7 +5,6 @@ use native.Mathlib.Omega.{arith}
 use Rattle.desk_print.specs.Text.{note_name}
 use Rattle.desk_print.proofs.Laws.{put_as}
 use Rattle.desk_print.proofs.Texts.{note_last}
-use borrow.Author.Rules.{rules}
 use Rattle.desk_print.proofs.names.note.Goals as goal
 
 pub returns-in-0 : goal.returns-in-0

@@ -1,9 +1,6 @@
 -- `desk_print::names::path` meets its contract. The invariant: the texts of the bytes so far are put.
 -- Assumes nothing.
-use Prim.Native.Nat.{◌≤◌, ◌-◌}
-use lib.ListN.{length, take}
-use Rattle.desk_print.specs.Output.{Put}
-use Rattle.desk_print.specs.Text.{each, path_char}
+use Rattle.desk_print.specs.Text.{path_char}
 use Rattle.desk_print.proofs.Texts.{each_begin, each_turn, each_end}
 use borrow.Author.Rules.{rules}
 use Rattle.desk_print.proofs.names.path.Goals as goal

@@ -2,7 +2,6 @@
 -- Assumes nothing.
 use Rattle.desk_print.proofs.Laws.{put_put, put_as}
 use Rattle.desk_print.proofs.Texts.{char_low, char_high, char_plain}
-use borrow.Author.Rules.{rules}
 use Rattle.desk_print.proofs.names.put_char.Goals as goal
 
 pub returns-then-b-lt32 : goal.returns-then-b-lt32

@@ -4,8 +4,6 @@ use Prim.Native.Nat.{◌≤◌, ◌-◌}
 use lib.ListN.{length, take}
 use Rattle.desk_print.specs.Output.{Put}
 use Rattle.desk_print.specs.Text.{each, name_char}
-use Rattle.desk_print.proofs.Texts.{each_begin, each_turn, each_end}
-use borrow.Author.Rules.{rules}
 use Rattle.desk_print.proofs.names.put_chars.Given as goal
 
 abbrev pub invariant-loop-i : goal.invariant-loop-i

@@ -4,7 +4,6 @@ use mathlib.Core.List.{◌∷◌}
 use lib.ListN.{get_or}
 use Rattle.desk_print.proofs.Laws.{put_put, put_as}
 use Rattle.desk_print.proofs.Texts.{path_escaped, path_plain}
-use borrow.Author.Rules.{rules}
 use Rattle.desk_print.proofs.names.put_path_char.Goals as goal
 
 pub returns-then-is_control : goal.returns-then-is_control

@@ -4,7 +4,6 @@ use mathlib.Core.Path.{sym, ap}
 use lib.Seq.{length-take-le}
 use Rattle.desk_print.specs.Text.{each, name_char}
 use Rattle.desk_print.proofs.Laws.{put_put, put_as}
-use borrow.Author.Rules.{rules}
 use Rattle.desk_print.proofs.names.quoted.Goals as goal
 
 pub slice_bounds-put_chars-end : goal.slice_bounds-put_chars-end

@@ -1,10 +1,8 @@
 -- `desk_print::names::without_spaces` meets its contract. The invariant: the bytes so far are the whole name, but for spaces at its end.
 -- Assumes nothing.
 use borrow.Author.Rules.{rules}
-use mathlib.Core.Path.{◌≡◌, ap}
-use Prim.Native.Nat.{◌≤◌}
+use mathlib.Core.Path.{ap}
 use native.Mathlib.Omega.{arith}
-use lib.ListN.{length, take}
 use lib.Seq.{take-length}
 use Rattle.desk_print.specs.Text.{trimmed}
 use Rattle.desk_print.proofs.Texts.{trimmed_here, trimmed_less, trimmed_none}

@@ -1,10 +1,8 @@
 -- `desk_print::output::add` meets its contract. Gathered at once, or after what was gathered is written out, or sent.
 -- Assumes nothing.
 use mathlib.Core.Path.{ap, ◌∙◌}
-use borrow.Author.Tests.{not-true, not-false}
 use Rattle.desk_print.specs.Output.{gathered}
 use Rattle.desk_print.proofs.Laws.{added_here, added_next, added_sent}
-use borrow.Author.Rules.{rules}
 use Rattle.desk_print.proofs.output.add.Goals as goal
 
 pub returns-then-gather : goal.returns-then-gather

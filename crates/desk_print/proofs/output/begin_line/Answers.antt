@@ -1,7 +1,6 @@
 -- `desk_print::output::begin_line` meets its contract. The name and a colon are put.
 -- Assumes nothing.
 use Rattle.desk_print.proofs.Laws.{put_put}
-use borrow.Author.Rules.{rules}
 use Rattle.desk_print.proofs.output.begin_line.Goals as goal
 
 pub returns : goal.returns

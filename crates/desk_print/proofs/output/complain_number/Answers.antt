@@ -1,7 +1,6 @@
 -- `desk_print::output::complain_number` meets its contract. Nothing is gathered after the end of the line.
 -- Assumes nothing.
 use Rattle.desk_print.proofs.Laws.{flushed}
-use borrow.Author.Rules.{rules}
 use Rattle.desk_print.proofs.output.complain_number.Goals as goal
 
 pub returns : goal.returns

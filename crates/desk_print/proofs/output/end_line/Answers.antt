@@ -2,7 +2,6 @@
 -- Assumes nothing.
 use mathlib.Core.Path.{sym, ◌∙◌}
 use Rattle.desk_print.proofs.Laws.{flushed}
-use borrow.Author.Rules.{rules}
 use Rattle.desk_print.proofs.output.end_line.Goals as goal
 
 pub returns : goal.returns

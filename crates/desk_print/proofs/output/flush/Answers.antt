@@ -1,7 +1,6 @@
 -- `desk_print::output::flush` meets its contract. The count is 0 afterwards.
 -- Assumes nothing.
 use Rattle.desk_print.proofs.Laws.{flushed_after}
-use borrow.Author.Rules.{rules}
 use Rattle.desk_print.proofs.output.flush.Goals as goal
 
 pub returns : goal.returns

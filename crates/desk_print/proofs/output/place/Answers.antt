@@ -1,7 +1,6 @@
 -- `desk_print::output::place` meets its contract.
 -- Assumes nothing.
 use Rattle.util.proofs.Laws.Splice.{part_put}
-use borrow.Author.Rules.{rules}
 use Rattle.desk_print.proofs.output.place.Goals as goal
 
 pub returns : goal.returns

@@ -1,7 +1,6 @@
 -- `desk_print::output::send` meets its contract. Nothing is gathered before and after.
 -- Assumes nothing.
 use Rattle.desk_print.proofs.Laws.{put_failed, put_empty, is_failed_true, failed_not_sound}
-use borrow.Author.Rules.{rules}
 use Rattle.desk_print.proofs.output.send.Goals as goal
 
 pub returns-then-is_failed : goal.returns-then-is_failed

@@ -1,7 +1,6 @@
 -- `desk_print::output::write_out` meets its contract. A write that fails is remembered.
 -- Assumes nothing.
 use Rattle.desk_print.proofs.Laws.{failed_not_sound}
-use borrow.Author.Rules.{rules}
 use Rattle.desk_print.proofs.output.write_out.Goals as goal
 
 pub returns-then-not-write_gathered : goal.returns-then-not-write_gathered

@@ -1,12 +1,8 @@
 -- `desk_tunings::keys::clear` meets its contract. The invariant: the entries below the place are those that no line has named.
 -- Assumes nothing.
-use borrow.Author.Rules.{rules}
-use mathlib.Core.Path.{◌≡◌, refl, sym, ◌∙◌}
+use mathlib.Core.Path.{◌≡◌}
 use Prim.Native.Nat.{ℕ, ◌≤◌, ◌<◌, ◌-◌}
-use native.Mathlib.Omega.{arith}
-use lib.ListN.{length, get_or, replicate, length-replicate, get_or-replicate}
-use lib.Seq.{ext_get_or}
-use Rattle.util.proofs.Laws.Stores.{store_more}
+use lib.ListN.{length, get_or}
 use Rattle.desk_tunings.specs.Keys.{untold}
 use Rattle.desk_tunings.proofs.keys.clear.Given as goal
 

@@ -3,7 +3,6 @@
 use borrow.Author.Tests.{ne_eqb}
 use mathlib.Core.Path.{sym, ◌∙◌}
 use Rattle.desk_tunings.specs.Keys.{counted_of}
-use borrow.Author.Rules.{rules}
 use Rattle.desk_tunings.proofs.keys.counted.Goals as goal
 
 pub returns-then-keys_set-eq0 : goal.returns-then-keys_set-eq0

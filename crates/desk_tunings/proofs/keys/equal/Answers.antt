@@ -2,7 +2,6 @@
 -- Assumes nothing.
 use borrow.Author.Tests.{lt-ltb, le-ltb}
 use Rattle.desk_tunings.specs.Keys.{equal_entry}
-use borrow.Author.Rules.{rules}
 use Rattle.desk_tunings.proofs.keys.equal.Goals as goal
 
 pub returns-then-key-lt-KEYS : goal.returns-then-key-lt-KEYS

@@ -2,7 +2,6 @@
 -- Assumes nothing.
 use borrow.Author.Tests.{eq-eqb, ne_eqb}
 use Rattle.desk_tunings.specs.Keys.{filled_entry}
-use borrow.Author.Rules.{rules}
 use Rattle.desk_tunings.proofs.keys.filled.Goals as goal
 
 pub returns-then-entry-eq-UNTOLD : goal.returns-then-entry-eq-UNTOLD

@@ -1,7 +1,6 @@
 -- `desk_tunings::keys::is_good` meets its contract, by cases.
 -- Assumes nothing.
 use Rattle.desk_tunings.specs.Keys.{good_lines}
-use borrow.Author.Rules.{rules}
 use Rattle.desk_tunings.proofs.keys.is_good.Goals as goal
 
 pub returns-in-Good : goal.returns-in-Good

@@ -1,7 +1,6 @@
 -- `desk_tunings::keys::keys_set` meets its contract, by cases.
 -- Assumes nothing.
 use Rattle.desk_tunings.specs.Keys.{set_by}
-use borrow.Author.Rules.{rules}
 use Rattle.desk_tunings.proofs.keys.keys_set.Goals as goal
 
 pub returns-in-Good : goal.returns-in-Good

@@ -3,7 +3,6 @@
 use borrow.Author.Tests.{le-leb, lt-leb, eq-eqb, ne_eqb}
 use lib.ListN.{get_or-eq_default}
 use Rattle.desk_tunings.specs.Keys.{put_answer, put_entries}
-use borrow.Author.Rules.{rules}
 use Rattle.desk_tunings.proofs.keys.put_entry.Goals as goal
 
 pub returns-then-entries-key : goal.returns-then-entries-key

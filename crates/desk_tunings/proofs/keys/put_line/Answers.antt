@@ -2,7 +2,6 @@
 -- Assumes nothing.
 use mathlib.Core.Path.{sym, ◌∙◌}
 use Rattle.desk_tunings.specs.Keys.{put_answer, put_entries}
-use borrow.Author.Rules.{rules}
 use Rattle.desk_tunings.proofs.keys.put_line.Goals as goal
 
 pub returns-in-Entry : goal.returns-in-Entry

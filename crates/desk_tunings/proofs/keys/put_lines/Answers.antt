@@ -1,12 +1,11 @@
 -- `desk_tunings::keys::put_lines` meets its contract. The invariant: what is left from the place on gives what all lines give; there are no more keys set than lines, and no more lines than bytes.
 -- Assumes nothing.
 use borrow.Author.Rules.{rules}
-use borrow.Author.Tests.{not-true, not-false}
-use mathlib.Core.Path.{◌≡◌, refl, sym, ap, ◌∙◌}
-use mathlib.Core.List.{List, ◌∷◌}
-use Prim.Native.Nat.{ℕ, ◌+◌, ◌≤◌, ◌<◌, ◌-◌}
+use mathlib.Core.Path.{refl, sym, ap, ◌∙◌}
+use mathlib.Core.List.{List}
+use Prim.Native.Nat.{ℕ, ◌+◌, ◌-◌}
 use native.Mathlib.Omega.{arith}
-use lib.ListN.{length, take, drop, length-drop}
+use lib.ListN.{take, drop, length-drop}
 use Rattle.desk_text.specs.Spans.{is_line_end}
 use Rattle.desk_text.specs.Lines.{end_length, lines_of}
 use Rattle.desk_text.proofs.Laws.Spans.{span_most}

@@ -1,19 +1,10 @@
 -- `desk_tunings::keys::put_lines` meets its contract. The invariant: what is left from the place on gives what all lines give; there are no more keys set than lines, and no more lines than bytes.
 -- Assumes nothing.
-use borrow.Author.Rules.{rules}
-use borrow.Author.Tests.{not-true, not-false}
-use mathlib.Core.Path.{◌≡◌, refl, sym, ap, ◌∙◌}
-use mathlib.Core.List.{List, ◌∷◌}
-use Prim.Native.Nat.{ℕ, ◌+◌, ◌≤◌, ◌<◌, ◌-◌}
-use native.Mathlib.Omega.{arith}
-use lib.ListN.{length, take, drop, length-drop}
-use Rattle.desk_text.specs.Spans.{is_line_end}
-use Rattle.desk_text.specs.Lines.{end_length, lines_of}
-use Rattle.desk_text.proofs.Laws.Spans.{span_most}
-use Rattle.desk_tunings.specs.Lines.{said_line}
-use Rattle.desk_tunings.specs.Keys.{set_by, read_lines}
-use Rattle.desk_tunings.proofs.Laws.Texts.{next_above, lines_turn}
-use Rattle.desk_tunings.proofs.Laws.Entries.{put_most, good_turn, wrong_turn, no_line}
+use mathlib.Core.Path.{◌≡◌}
+use Prim.Native.Nat.{◌≤◌, ◌-◌}
+use lib.ListN.{length, drop}
+use Rattle.desk_text.specs.Lines.{lines_of}
+use Rattle.desk_tunings.specs.Keys.{read_lines}
 use Rattle.desk_tunings.proofs.keys.put_lines.Given as goal
 
 abbrev pub invariant-loop-at : goal.invariant-loop-at

@@ -1,13 +1,12 @@
 -- `desk_tunings::keys::read` meets its contract, from what its parts say.
 -- Assumes nothing.
-use mathlib.Core.Path.{◌≡◌, ap, ◌∙◌}
+use mathlib.Core.Path.{ap, ◌∙◌}
 use mathlib.Core.List.{List}
 use Prim.Native.Nat.{ℕ}
 use lib.ListN.{drop}
 use Rattle.desk_text.specs.Lines.{mark_length, lines_of}
 use Rattle.desk_tunings.specs.declared.keys.Lines.{Lines}
 use Rattle.desk_tunings.specs.Keys.{counted_of, filled_from, read_lines, read_text, read_answer, read_entries}
-use borrow.Author.Rules.{rules}
 use Rattle.desk_tunings.proofs.keys.read.Goals as goal
 
 pub returns : goal.returns

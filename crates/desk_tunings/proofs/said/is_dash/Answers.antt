@@ -2,7 +2,6 @@
 -- Assumes nothing.
 use borrow.Author.Tests.{eq-eqb, ne_eqb}
 use Rattle.desk_tunings.specs.Lines.{is_no_tuning}
-use borrow.Author.Rules.{rules}
 use Rattle.desk_tunings.proofs.said.is_dash.Goals as goal
 
 pub returns-then-s-eq1 : goal.returns-then-s-eq1

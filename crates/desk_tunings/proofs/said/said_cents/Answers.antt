@@ -3,7 +3,6 @@
 use mathlib.Core.Path.{ap, ◌∙◌}
 use Rattle.desk_text.specs.Fractions.{tuned_entry}
 use Rattle.desk_tunings.specs.Lines.{said_entry, said_cents}
-use borrow.Author.Rules.{rules}
 use Rattle.desk_tunings.proofs.said.said_cents.Goals as goal
 
 pub returns-in-Above : goal.returns-in-Above

@@ -1,7 +1,6 @@
 -- `desk_tunings::said::said_entry` meets its contract, by cases.
 -- Assumes nothing.
 use Rattle.desk_tunings.specs.Lines.{said_entry}
-use borrow.Author.Rules.{rules}
 use Rattle.desk_tunings.proofs.said.said_entry.Goals as goal
 
 pub returns-in-Is : goal.returns-in-Is

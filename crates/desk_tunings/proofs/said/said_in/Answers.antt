@@ -3,7 +3,6 @@
 use mathlib.Core.Path.{ap, ◌∙◌}
 use Rattle.desk_text.specs.Lines.{from_word}
 use Rattle.desk_tunings.specs.Lines.{said_words, said_line}
-use borrow.Author.Rules.{rules}
 use Rattle.desk_tunings.proofs.said.said_in.Goals as goal
 
 pub returns : goal.returns

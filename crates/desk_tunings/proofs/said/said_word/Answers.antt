@@ -2,7 +2,6 @@
 -- Assumes nothing.
 use mathlib.Core.Path.{sym, ap, ◌∙◌}
 use Rattle.desk_tunings.specs.Lines.{said_cents, said_word}
-use borrow.Author.Rules.{rules}
 use Rattle.desk_tunings.proofs.said.said_word.Goals as goal
 
 pub returns-then-is_dash : goal.returns-then-is_dash

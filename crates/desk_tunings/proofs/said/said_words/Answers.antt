@@ -4,7 +4,6 @@ use borrow.Author.Tests.{eq-eqb, ne_eqb}
 use mathlib.Core.Path.{ap, ap₂, ◌∙◌}
 use Rattle.desk_text.specs.Keys.{key_of}
 use Rattle.desk_tunings.specs.Lines.{said_key, said_words}
-use borrow.Author.Rules.{rules}
 use Rattle.desk_tunings.proofs.said.said_words.Goals as goal
 
 pub returns-then-first-eq0 : goal.returns-then-first-eq0

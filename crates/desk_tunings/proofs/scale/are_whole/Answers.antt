@@ -1,11 +1,7 @@
 -- `desk_tunings::scale::are_whole` meets its contract. The invariant: the values from the place on are whole where all are.
 -- Assumes nothing.
 use borrow.Author.Rules.{rules}
-use borrow.Author.Tests.{not-true, not-false}
-use mathlib.Core.Path.{◌≡◌, refl, sym, ◌∙◌}
-use Prim.Native.Nat.{◌≤◌, ◌-◌}
-use lib.ListN.{length, drop}
-use Rattle.desk_tunings.specs.Scale.{are_whole_values}
+use mathlib.Core.Path.{refl, sym, ◌∙◌}
 use Rattle.desk_tunings.proofs.Laws.Words.{whole_none, whole_stop, whole_more}
 use Rattle.desk_tunings.proofs.scale.are_whole.Goals as goal
 

@@ -1,7 +1,6 @@
 -- `desk_tunings::scale::is_good` meets its contract, by cases.
 -- Assumes nothing.
 use Rattle.desk_tunings.specs.Scale.{good_values}
-use borrow.Author.Rules.{rules}
 use Rattle.desk_tunings.proofs.scale.is_good.Goals as goal
 
 pub returns-in-Good : goal.returns-in-Good

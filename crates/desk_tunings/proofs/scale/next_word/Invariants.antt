@@ -1,15 +1,11 @@
 -- `desk_tunings::scale::next_word` meets its contract. The invariant: the place is not before the first, the words from it on are the same, and no blank stands there.
 -- Assumes nothing.
-use borrow.Author.Rules.{rules}
-use borrow.Author.Tests.{not-true, not-false}
-use mathlib.Core.Path.{◌≡◌, sym, ◌∙◌}
+use mathlib.Core.Path.{◌≡◌}
 use mathlib.Core.Bool.{false}
 use Prim.Native.Nat.{◌≤◌, ◌<◌, ◌-◌}
-use native.Mathlib.Omega.{arith}
 use lib.ListN.{length, drop, get_or}
 use Rattle.desk_text.specs.Spans.{is_blank}
 use Rattle.desk_tunings.specs.Scale.{words_of}
-use Rattle.desk_tunings.proofs.Laws.Words.{skipped_words, skipped_stop, comment_turn}
 use Rattle.desk_tunings.proofs.scale.next_word.Given as goal
 
 abbrev pub invariant-loop-at : goal.invariant-loop-at

@@ -2,7 +2,6 @@
 -- Assumes nothing.
 use borrow.Author.Tests.{eq-eqb, ne_eqb}
 use Rattle.desk_tunings.specs.Scale.{word_answer, word_values}
-use borrow.Author.Rules.{rules}
 use Rattle.desk_tunings.proofs.scale.put_word.Goals as goal
 
 pub returns-then-v-eq0 : goal.returns-then-v-eq0

@@ -1,15 +1,12 @@
 -- `desk_tunings::scale::read` meets its contract. The invariant: there are no more values than room for them, which keeps its size; a word begins at the place, and the words from it on give what all words give.
 -- Assumes nothing.
 use borrow.Author.Rules.{rules}
-use borrow.Author.Tests.{not-true, not-false}
-use mathlib.Core.Path.{◌≡◌, refl, sym, ap, ◌∙◌}
-use mathlib.Core.Bool.{true, false}
+use mathlib.Core.Path.{refl, sym, ap, ◌∙◌}
 use mathlib.Core.List.{List}
-use Prim.Native.Nat.{ℕ, ◌+◌, ◌≤◌, ◌<◌, ◌-◌}
-use lib.ListN.{length, take, drop, get_or, length-drop}
+use Prim.Native.Nat.{ℕ, ◌+◌, ◌-◌}
+use lib.ListN.{take, drop, length-drop}
 use Rattle.desk_text.specs.declared.spans.Until.TheVariants.{Blank}
-use Rattle.desk_text.specs.Spans.{is_blank, stops, span}
-use Rattle.desk_text.specs.Lines.{begins_comment}
+use Rattle.desk_text.specs.Spans.{stops, span}
 use Rattle.desk_text.proofs.Laws.Spans.{span_most}
 use Rattle.desk_tunings.specs.Scale.{words_of, read_words, read_values}
 use Rattle.desk_tunings.proofs.Laws.Words.{word_turn, good_word, wrong_word, no_room, no_word}

@@ -1,7 +1,6 @@
 -- `desk_tunings::scale::refused` meets its contract, by cases.
 -- Assumes nothing.
 use Rattle.desk_tunings.specs.Scale.{refused_as}
-use borrow.Author.Rules.{rules}
 use Rattle.desk_tunings.proofs.scale.refused.Goals as goal
 
 pub returns-in-Above : goal.returns-in-Above

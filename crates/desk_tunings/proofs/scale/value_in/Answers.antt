@@ -2,7 +2,6 @@
 -- Assumes nothing.
 use borrow.Author.Tests.{le-leb, lt-leb}
 use Rattle.desk_tunings.specs.Scale.{value_of}
-use borrow.Author.Rules.{rules}
 use Rattle.desk_tunings.proofs.scale.value_in.Goals as goal
 
 pub returns-then-a-le-HIGHEST : goal.returns-then-a-le-HIGHEST

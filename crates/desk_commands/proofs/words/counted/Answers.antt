@@ -1,0 +1,11 @@
+-- `desk_commands::words::counted` meets its contract: the test is that of the definition.
+-- Assumes nothing.
+use borrow.Author.Tests.{eq-eqb, ne_eqb}
+use borrow.Author.Rules.{rules}
+use Rattle.desk_commands.proofs.words.counted.Goals as goal
+
+pub returns-then-b-eq0 : goal.returns-then-b-eq0
+returns-then-b-eq0 c = rw (eq-eqb _ _ c.if-b-eq0.true)
+
+pub returns-else-b-eq0 : goal.returns-else-b-eq0
+returns-else-b-eq0 c = rw (ne_eqb _ _ c.if-b-eq0.false)
