@@ -48,8 +48,6 @@ slice_bounds-put_group-start c = omega (arith, room c)
 pub slice_bounds-put_group-end : goal.slice_bounds-put_group-end
 slice_bounds-put_group-end c = omega (arith, room c)
 
--- TODO slice-bounds-put-group-end-2
--- part_put_group_end_2 c = omega (arith, room c.before)
 pub put_group-requires : goal.put_group-requires
 put_group-requires c =
     let w = room (goal.at.put_group-requires c).In-loop-i in
