@@ -3,6 +3,8 @@
 
 mod files;
 
+ghost use Rattle.std.specs.Prelude.{◌≡◌, length};
+
 use desk_io::pieces::sum;
 use files::{print, write};
 use std::env::{Env, FillError};
@@ -58,9 +60,15 @@ fn replay_all(rt: HostRuntime, room: &mut [u8]) -> Tally {
     t
 }
 
-// The buffer is longer than any case.
+// A buffer that is longer than any case.
+fn large_room() -> [u8; 524288]
+    ensures { 524288 ≡ length result }
+{
+    [0; 524288]
+}
+
 fn main(rt: HostRuntime) {
-    let mut room = [0u8; 524288];
+    let mut room = large_room();
     let t = replay_all(rt, &mut room);
     print_tally(rt, b"total", t.passed, t.failed);
 }
