@@ -1,5 +1,5 @@
 -- Other sorts of files, told by how they begin.
-use Rattle.std.specs.Prelude.{Bool, true, false, ◌&&◌, ◌||◌, List, [], ◌∷◌, ℕ, eqb, leb, ltb, length, drop, get_or}
+use Rattle.std.specs.Prelude.{Bool, true, ◌&&◌, ◌||◌, List, [], ◌∷◌, ℕ, eqb, leb, ltb, drop, get_or}
 use Rattle.util.specs.Pick.{pick}
 use Rattle.desk_files.specs.declared.sorts.Sort.{Sort}
 use Rattle.desk_files.specs.declared.sorts.Sort.TheVariants.{Capture, MidiFile, SoundFile, Scala, Text}

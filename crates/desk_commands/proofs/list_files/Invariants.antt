@@ -2,7 +2,6 @@
 -- Assumes nothing.
 use Prim.Native.Nat.{◌≤◌, ◌-◌}
 use lib.ListN.{length}
-use borrow.Author.Rules.{rules}
 use Rattle.desk_commands.proofs.list_files.Given as goal
 
 abbrev pub invariant-loop-at : goal.invariant-loop-at

@@ -1,10 +1,10 @@
 -- `desk_commands::words::count` meets its contract. The invariant: the words counted and those from i on are all words.
 -- Assumes nothing.
-use mathlib.Core.Path.{◌≡◌, refl, sym, ap, ◌∙◌}
-use Prim.Native.Nat.{ℕ, ◌+◌, ◌-◌, ◌≤◌}
+use mathlib.Core.Path.{sym, ap, ◌∙◌}
+use Prim.Native.Nat.{ℕ, ◌+◌}
 use native.Mathlib.Omega.{arith}
 use lib.Dec.{eqb}
-use lib.ListN.{length, drop, get_or}
+use lib.ListN.{drop, get_or}
 use Rattle.desk_commands.specs.Words.{word_count}
 use Rattle.desk_commands.proofs.Laws.Words.{counted_most, count_past, count_turn}
 use borrow.Author.Rules.{rules}

@@ -1,13 +1,9 @@
 -- `desk_commands::words::count` meets its contract. The invariant: the words counted and those from i on are all words.
 -- Assumes nothing.
-use mathlib.Core.Path.{◌≡◌, refl, sym, ap, ◌∙◌}
-use Prim.Native.Nat.{ℕ, ◌+◌, ◌-◌, ◌≤◌}
-use native.Mathlib.Omega.{arith}
-use lib.Dec.{eqb}
-use lib.ListN.{length, drop, get_or}
+use mathlib.Core.Path.{◌≡◌}
+use Prim.Native.Nat.{◌+◌, ◌-◌, ◌≤◌}
+use lib.ListN.{length, drop}
 use Rattle.desk_commands.specs.Words.{word_count}
-use Rattle.desk_commands.proofs.Laws.Words.{counted_most, count_past, count_turn}
-use borrow.Author.Rules.{rules}
 use Rattle.desk_commands.proofs.words.count.Given as goal
 
 abbrev pub invariant-loop-i : goal.invariant-loop-i

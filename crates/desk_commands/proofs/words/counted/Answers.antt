@@ -1,7 +1,6 @@
 -- `desk_commands::words::counted` meets its contract: the test is that of the definition.
 -- Assumes nothing.
 use borrow.Author.Tests.{eq-eqb, ne_eqb}
-use borrow.Author.Rules.{rules}
 use Rattle.desk_commands.proofs.words.counted.Goals as goal
 
 pub returns-then-b-eq0 : goal.returns-then-b-eq0

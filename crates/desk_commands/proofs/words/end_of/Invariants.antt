@@ -1,12 +1,9 @@
 -- `desk_commands::words::end_of` meets its contract. The invariant: the word that is left from i on ends where the whole ends.
 -- Assumes nothing.
-use mathlib.Core.Path.{◌≡◌, refl}
+use mathlib.Core.Path.{◌≡◌}
 use Prim.Native.Nat.{◌+◌, ◌-◌, ◌≤◌}
-use native.Mathlib.Omega.{arith}
 use lib.ListN.{length, drop}
 use Rattle.desk_commands.specs.Words.{first_length}
-use Rattle.desk_commands.proofs.Laws.Words.{first_past, first_stop, first_more}
-use borrow.Author.Rules.{rules}
 use Rattle.desk_commands.proofs.words.end_of.Given as goal
 
 abbrev pub invariant-loop-i : goal.invariant-loop-i

@@ -3,7 +3,6 @@
 use mathlib.Core.Path.{◌≡◌}
 use lib.ListN.{length}
 use Prim.Native.Nat.{◌≤◌, ◌-◌}
-use borrow.Author.Rules.{rules}
 use Rattle.desk_commands.proofs.words.push.Given as goal
 
 abbrev pub invariant-loop-i : goal.invariant-loop-i

@@ -4,7 +4,7 @@ use mathlib.Core.Path.{◌≡◌, ap, ◌∙◌}
 use Prim.Native.Nat.{ℕ, ◌+◌, ◌-◌, ◌≤◌, ◌<◌}
 use native.Mathlib.Omega.{arith}
 use lib.Dec.{eqb}
-use lib.ListN.{length, drop, get_or}
+use lib.ListN.{drop, get_or}
 use Rattle.desk_commands.specs.Words.{start_at}
 use Rattle.desk_commands.proofs.Laws.Words.{counted_most, counted_within, start_none, start_first, start_past, start_turn}
 use borrow.Author.Rules.{rules}

@@ -1,13 +1,9 @@
 -- `desk_commands::words::start_of` meets its contract. The invariant: the word of the number begins where, from i on, the word of what is left of the number begins.
 -- Assumes nothing.
-use mathlib.Core.Path.{◌≡◌, ap, ◌∙◌}
-use Prim.Native.Nat.{ℕ, ◌+◌, ◌-◌, ◌≤◌, ◌<◌}
-use native.Mathlib.Omega.{arith}
-use lib.Dec.{eqb}
-use lib.ListN.{length, drop, get_or}
+use mathlib.Core.Path.{◌≡◌}
+use Prim.Native.Nat.{◌+◌, ◌-◌, ◌≤◌}
+use lib.ListN.{length, drop}
 use Rattle.desk_commands.specs.Words.{start_at}
-use Rattle.desk_commands.proofs.Laws.Words.{counted_most, counted_within, start_none, start_first, start_past, start_turn}
-use borrow.Author.Rules.{rules}
 use Rattle.desk_commands.proofs.words.start_of.Given as goal
 
 abbrev pub invariant-loop-i : goal.invariant-loop-i

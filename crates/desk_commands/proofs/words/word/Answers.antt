@@ -1,7 +1,6 @@
 -- `desk_commands::words::word` meets its contract: the part from the word's start to its end.
 -- Assumes nothing.
 use Rattle.desk_commands.proofs.Laws.Words.{word_part}
-use borrow.Author.Rules.{rules}
 use Rattle.desk_commands.proofs.words.word.Goals as goal
 
 pub returns : goal.returns

@@ -3,7 +3,6 @@
 use mathlib.Core.Path.{◌≡◌}
 use Prim.Native.Nat.{◌≤◌}
 use lib.ListN.{length}
-use borrow.Author.Rules.{rules}
 use Rattle.desk_extract.proofs.extract.join_pieces.Given as goal
 
 abbrev pub invariant-loop-turns : goal.invariant-loop-turns

@@ -1,6 +1,5 @@
 -- `desk_extract::joined::is_next` meets its contract: the tests are those of the definition.
 -- Assumes nothing.
-use borrow.Author.Rules.{rules}
 use borrow.Author.Tests.{lt-ltb, le-ltb}
 use Rattle.desk_extract.proofs.joined.is_next.Goals as goal
 

@@ -1,7 +1,6 @@
 -- `desk_files::list::list_index` is safe and ends. The invariant: at most all pairs are passed.
 -- Assumes nothing.
 use Prim.Native.Nat.{◌≤◌, ◌-◌}
-use borrow.Author.Rules.{rules}
 use Rattle.desk_files.proofs.list.list_index.Given as goal
 
 abbrev pub invariant-loop-i : goal.invariant-loop-i

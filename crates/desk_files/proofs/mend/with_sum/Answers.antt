@@ -4,7 +4,6 @@ use Prim.Native.Nat.{◌-◌}
 use native.Mathlib.Omega.{arith}
 use lib.ListN.{length}
 use Rattle.desk_files.proofs.Laws.Mend.{mended_long, mended_short, mended_none, mended_stored}
-use borrow.Author.Rules.{rules}
 use Rattle.desk_files.proofs.mend.with_sum.Goals as goal
 
 pub returns-then-room-n : goal.returns-then-room-n

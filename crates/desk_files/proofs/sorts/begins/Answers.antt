@@ -1,7 +1,6 @@
 -- `desk_files::sorts::begins` meets its contract: the tests are those of the definition.
 -- Assumes nothing.
 use Rattle.desk_files.specs.Sorts.{begins}
-use borrow.Author.Rules.{rules}
 use Rattle.desk_files.proofs.sorts.begins.Goals as goal
 
 pub returns-then-begins_three : goal.returns-then-begins_three

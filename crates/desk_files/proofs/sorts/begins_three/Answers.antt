@@ -2,7 +2,6 @@
 -- Assumes nothing.
 use borrow.Author.Tests.{eq-eqb, ne_eqb}
 use Rattle.desk_files.specs.Sorts.{begins_three}
-use borrow.Author.Rules.{rules}
 use Rattle.desk_files.proofs.sorts.begins_three.Goals as goal
 
 pub returns-then-at-a : goal.returns-then-at-a

@@ -1,11 +1,6 @@
 -- `desk_files::sorts::is_text` meets its contract: the bytes from i on are text just where all are.
 -- Assumes nothing.
-use borrow.Author.Rules.{rules}
-use mathlib.Core.Path.{◌≡◌, refl, sym, ◌∙◌}
-use Prim.Native.Nat.{◌-◌}
-use borrow.Author.Tests.{not-true, not-false}
-use lib.ListN.{length, drop}
-use Rattle.desk_files.specs.Sorts.{is_text}
+use mathlib.Core.Path.{refl, sym, ◌∙◌}
 use Rattle.desk_files.proofs.Laws.Sorts.{text_past, text_stop, text_more}
 use Rattle.desk_files.proofs.sorts.is_text.Goals as goal
 

@@ -1,8 +1,6 @@
 -- `desk_files::sorts::mark` meets its contract: the test is that of the definition.
 -- Assumes nothing.
-use mathlib.Core.Path.{sym, ◌∙◌}
 use Rattle.desk_files.specs.Sorts.{mark_length}
-use borrow.Author.Rules.{rules}
 use Rattle.desk_files.proofs.sorts.mark.Goals as goal
 
 pub returns-then-begins_three : goal.returns-then-begins_three

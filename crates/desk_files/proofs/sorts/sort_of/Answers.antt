@@ -3,7 +3,6 @@
 use mathlib.Core.Path.{ap, ◌∙◌}
 use Rattle.desk_files.specs.Sorts.{sort_of_text, sort_of}
 use Rattle.desk_files.proofs.Laws.Sorts.{rest_of}
-use borrow.Author.Rules.{rules}
 use Rattle.desk_files.proofs.sorts.sort_of.Goals as goal
 
 pub returns-then-begins : goal.returns-then-begins

@@ -1,9 +1,7 @@
 -- `desk_files::sorts::sort_of_text` meets its contract: the tests are those of the definition.
 -- Assumes nothing.
 use mathlib.Core.Path.{sym, ◌∙◌}
-use borrow.Author.Tests.{not-true, not-false}
 use Rattle.desk_files.proofs.Laws.Sorts.{sort_none, sort_other, sort_scala, sort_text}
-use borrow.Author.Rules.{rules}
 use Rattle.desk_files.proofs.sorts.sort_of_text.Goals as goal
 
 pub returns-then-s-eq0 : goal.returns-then-s-eq0

@@ -1,6 +1,5 @@
 -- `replay::files::replay_next` is safe and ends: a case that is whole lies within the bytes.
 -- Assumes nothing.
-use borrow.Author.Rules.{rules}
 use Rattle.replay.proofs.files.replay_next.Goals as goal
 
 pub replay_case-requires : goal.replay_case-requires

@@ -1,6 +1,6 @@
 -- `replay_walk::short::make` is safe and ends. The measure is how many bytes are left.
 -- Assumes nothing.
-use Rattle.std.proofs.Common.{◌-◌, ◌≤◌, rules}
+use Rattle.std.proofs.Common.{◌-◌, ◌≤◌}
 use Rattle.replay_walk.proofs.short.make.Given as goal
 
 abbrev pub invariant-loop-i : goal.invariant-loop-i
