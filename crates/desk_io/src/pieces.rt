@@ -75,7 +75,7 @@ fn read_source(source: &mut Source, room: &mut [u8]) -> std::io::Result<usize>
 }
 
 // Reads bytes of the file to the start of a buffer.
-fn read_once(source: &mut Source, room: &mut [u8]) -> Got
+pub fn read_once(source: &mut Source, room: &mut [u8]) -> Got
     ensures { result.count ≤ length room.old }
 {
     match read_source(source, room) {

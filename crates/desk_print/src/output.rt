@@ -23,6 +23,8 @@ impl Model for Output {
     ghost Value = { List ℕ };
 
     ghost view = { λ o. o.room };
+
+    ghost invariant = { λ o. length o.room ≡ 65539 };
 }
 
 // An output with nothing gathered; error lines go to an open file.

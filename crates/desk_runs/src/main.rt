@@ -72,9 +72,24 @@ fn run_lines(out: &mut Output, s: &[u8]) {
     }
 }
 
+// Reads a source up to its end, the buffer's or a failure; how many bytes there are.
+fn read_full(source: &mut Source, room: &mut [u8]) -> usize
+    ensures { result ≤ length room.old }
+{
+    let mut n = 0;
+    while n < room.len() {
+        let got = pieces::read_once(source, &mut room[n..]);
+        if got.count == 0 {
+            break;
+        }
+        n += got.count;
+    }
+    n
+}
+
 fn main(rt: HostRuntime) {
     let mut room = io::large_buffer();
-    let n = pieces::read_all(&mut Source::Stdin(rt.stdin()), &mut room).count;
+    let n = read_full(&mut Source::Stdin(rt.stdin()), &mut room);
     let mut out = output::new(rt, 1);
     run_lines(&mut out, &room[..n]);
     output::flush(&mut out);
