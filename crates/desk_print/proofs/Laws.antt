@@ -134,8 +134,8 @@ take_splice o t n h =
     ap (λ (l : List ℕ). take (n + length t) l) (sym (append_assoc (take n o) t (drop (length t) (drop n o))))
     ∙ take_at (take n o ++ t) (drop (length t) (drop n o)) (n + length t) (length-append (take n o) t ∙ ap (λ (k : ℕ). k + length t) (length-take-le n o (omega arith)))
 
-get_d_splice_past : (o t : List ℕ) (n k : ℕ) → n + length t ≤ k → n + length t ≤ length o → get_or (splice o n t) k 0 ≡ get_or o k 0
-get_d_splice_past o t n k r h =
+get_or_splice_past : (o t : List ℕ) (n k : ℕ) → n + length t ≤ k → n + length t ≤ length o → get_or (splice o n t) k 0 ≡ get_or o k 0
+get_or_splice_past o t n k r h =
     let p : List ℕ = take n o ++ t in
     let q : List ℕ = drop (length t) (drop n o) in
     let l : length p ≡ n + length t = length-append (take n o) t ∙ ap (λ (k : ℕ). k + length t) (length-take-le n o (omega arith)) in
@@ -160,7 +160,7 @@ placed {a} {b} {c} t n m h l e k =
           ∙ ap (λ (x : List ℕ). take (n + length t) x) e
           ∙ take_splice a t n (omega arith)
           ∙ ap (λ (n : ℕ). take n a ++ t) m;
-      flag = k.flag ∙ ap (λ (x : List ℕ). get_or x 65537 0) e ∙ get_d_splice_past a t n 65537 (omega arith) (omega arith);
+      flag = k.flag ∙ ap (λ (x : List ℕ). get_or x 65537 0) e ∙ get_or_splice_past a t n 65537 (omega arith) (omega arith);
     }
 
 -- ---- the three ways of adding a text

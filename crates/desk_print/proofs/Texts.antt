@@ -128,9 +128,9 @@ module _ (p b : ℕ) (h : 32 ≤ b) (n : b ≡ 127 → ⊥) where
   pub control_second : 128 ≤ b → b ≤ 159 → eqb p 0xC2 ≡ is_control_of p b
   control_second g l = rw (le-ltb b 32 h, ne_eqb b 127 n, le-leb 128 b g, lt-ltb b 160 (omega arith))
 
-pub get_d_before : (s : List ℕ) (i : ℕ) → 0 < i → get_or (0 ∷ s) i 0 ≡ get_or s (i - 1) 0
-get_d_before s zero h = absurd (omega arith)
-get_d_before s (suc i) h = let e : suc i - 1 ≡ i = omega arith in rw e
+pub get_or_before : (s : List ℕ) (i : ℕ) → 0 < i → get_or (0 ∷ s) i 0 ≡ get_or s (i - 1) 0
+get_or_before s zero h = absurd (omega arith)
+get_or_before s (suc i) h = let e : suc i - 1 ≡ i = omega arith in rw e
 
 pub path_escaped : {x b : ℕ} {r : Bool} (p : ℕ) → x ≡ b → r ≡ is_control_of p b → r ≡ true → escaped x ≡ path_char p b
 path_escaped {x} {b} {r} p e q t = ap escaped e ∙ ap (λ (z : Bool). pick z (escaped b) (b ∷ [])) (sym t ∙ q)

@@ -75,8 +75,8 @@ write_of m = given_unless (refusal m) (framed (settle m))
 -- ---- "A settled message"
 
 -- "An admitted message with every field already in its written range: nothing held, cut or filled"; the clauses that follow are those of
--- `settle` in the parts: all call (device), named types (file-type), no tuning (tuning), a bank (bank-or-none), maker bytes (maker),
--- "all" (loop-number), the rate as two numbers (ExtendedHeader), channels as sixteen flags (channels)
+-- `settle` in the parts: all call (device), named types (file_type), no tuning (tuning), a bank (bank_or_none), maker bytes (maker),
+-- "all" (loop_number), the rate as two numbers (ExtendedHeader), channels as sixteen flags (channels)
 pub record Settled (m : Message) : Type 0 where
   pub admitted : refusal m ≡ none
   pub unchanged : settle m ≡ m

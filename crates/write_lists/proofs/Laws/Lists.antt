@@ -15,10 +15,10 @@ use Rattle.messages.specs.format.Lists.{all_settle, all_bytes, all_length, fille
 use Rattle.write_lists.specs.Writing.{items}
 
 -- what stands at a place that is there does not depend on the default
-pub get_d_any : {A : Type 0} (l : List A) (i : ℕ) (d e : A) → i < length l → get_or l i d ≡ get_or l i e
-get_d_any [] i d e h = absurd (omega arith)
-get_d_any (x ∷ l) zero d e h = refl
-get_d_any (x ∷ l) (suc i) d e h = get_d_any l i d e (omega arith)
+pub get_or_any : {A : Type 0} (l : List A) (i : ℕ) (d e : A) → i < length l → get_or l i d ≡ get_or l i e
+get_or_any [] i d e h = absurd (omega arith)
+get_or_any (x ∷ l) zero d e h = refl
+get_or_any (x ∷ l) (suc i) d e h = get_or_any l i d e (omega arith)
 
 -- the first n are the first n or fewer that there are
 pub take_least : {A : Type 0} (n : ℕ) (l : List A) → take n l ≡ take (min (length l) n) l

@@ -18,12 +18,12 @@ length_fill f zero xs = refl
 length_fill f (suc n) [] = ap suc (length_fill f n [])
 length_fill f (suc n) (x ∷ xs) = ap suc (length_fill f n xs)
 
-pub get_d_fill : (f n : ℕ) (xs : List ℕ) (i : ℕ) → i < n → get_or (fill_to f n xs) i 0 ≡ low (get_or xs i f)
-get_d_fill f zero xs i h = absurd (not-suc-le-zero h)
-get_d_fill f (suc n) [] zero h = refl
-get_d_fill f (suc n) [] (suc i) h = get_d_fill f n [] i (le_of_suc-le-suc h)
-get_d_fill f (suc n) (x ∷ xs) zero h = refl
-get_d_fill f (suc n) (x ∷ xs) (suc i) h = get_d_fill f n xs i (le_of_suc-le-suc h)
+pub get_or_fill : (f n : ℕ) (xs : List ℕ) (i : ℕ) → i < n → get_or (fill_to f n xs) i 0 ≡ low (get_or xs i f)
+get_or_fill f zero xs i h = absurd (not-suc-le-zero h)
+get_or_fill f (suc n) [] zero h = refl
+get_or_fill f (suc n) [] (suc i) h = get_or_fill f n [] i (le_of_suc-le-suc h)
+get_or_fill f (suc n) (x ∷ xs) zero h = refl
+get_or_fill f (suc n) (x ∷ xs) (suc i) h = get_or_fill f n xs i (le_of_suc-le-suc h)
 
 -- what is there, and after it what is filled
 pub fill_split : (f n k : ℕ) (xs : List ℕ) → k ≡ min (length xs) n

@@ -6,7 +6,7 @@ use Prim.Native.Nat.{ℕ}
 use native.Mathlib.Omega.{arith}
 use lib.Dec.{eqb}
 use lib.ListN.{get_or}
-use Rattle.desk_print.proofs.Texts.{control_low, control_delete, not_control_low, not_control_high, control_second, get_d_before}
+use Rattle.desk_print.proofs.Texts.{control_low, control_delete, not_control_low, not_control_high, control_second, get_or_before}
 use Rattle.desk_print.proofs.names.is_control.Goals as goal
 
 pub returns-then-b-lt32 : goal.returns-then-b-lt32
@@ -37,5 +37,5 @@ returns c =
     let e = c.at-b.ensures in
     let s = c.args.s.now in
     let i = c.args.i in
-    ap (λ (x : ℕ). eqb x 0xC2) (c.at.ensures ∙ sym (get_d_before s i (omega (arith, c.if-i-eq0.false))))
+    ap (λ (x : ℕ). eqb x 0xC2) (c.at.ensures ∙ sym (get_or_before s i (omega (arith, c.if-i-eq0.false))))
     ∙ control_second (get_or (0 ∷ c.args.s.now) c.args.i 0) (get_or c.args.s.now c.args.i 0) (omega (arith, e, c.if-b-lt32.false)) (λ q. c.if-b-eq127.false (e ∙ q)) (omega (arith, e, c.if-b-lt128.false)) (omega (arith, e, c.if-b-gt159.false))

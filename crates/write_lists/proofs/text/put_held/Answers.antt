@@ -7,7 +7,7 @@ use lib.ListN.{length, length-set}
 use borrow.Author.Rules.{rules}
 use Rattle.util.proofs.Laws.Splice.{store_turn, store_done}
 use Rattle.write_lists.specs.Writing.{fill_to}
-use Rattle.write_lists.proofs.Laws.Texts.{length_fill, get_d_fill}
+use Rattle.write_lists.proofs.Laws.Texts.{length_fill, get_or_fill}
 use Rattle.write_lists.proofs.text.put_held.Goals as goal
 
 pub loop-i-init : goal.loop-i-init
@@ -22,7 +22,7 @@ loop-i-preserved c =
     let h : l.i < length x = c.loop-i-test.true in (
       omega arith,
       simp length-set l.invariant.1,
-      store_turn t l.out l.i _ (omega arith) (c.held.ensures ∙ sym (get_d_fill 0 (length x) x l.i h)) ∙ l.invariant.2,
+      store_turn t l.out l.i _ (omega arith) (c.held.ensures ∙ sym (get_or_fill 0 (length x) x l.i h)) ∙ l.invariant.2,
     )
 
 pub returns : goal.returns
