@@ -1,7 +1,7 @@
 #!/usr/bin/env python3
 """Brings this repository's own definitions and lemmas to the spelling of today's Rattle: words in snake case.
 
-usage: python3 tools/respell.py      at the top of the repository, once, right after /opt/rattle/port/port.py
+usage: python3 tools/respell.py      at the top of the repository, once, right after the port.py of the kit
 
 It renames what is defined in specs/ and proofs/ with a dash or a capital in a word, wherever it is named: in .antt files, in the clauses and
 ghost lines of .rt files, in must-fail edits, and between backticks in comments and in the documents. Functions, types, strings and files keep

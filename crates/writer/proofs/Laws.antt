@@ -4,6 +4,7 @@ pub mod Frames
 pub mod Bodies
 pub mod References
 pub mod Sums
+pub mod Opened
 pub mod Whole
 pub mod Lengths
 pub mod Answers
