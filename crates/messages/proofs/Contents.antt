@@ -15,7 +15,7 @@ use Rattle.messages.specs.declared.system_exclusive.ManufacturerID.TheVariants.{
 use Rattle.messages.specs.declared.file_reference.FileReferenceType.TheVariants.{DLS, SF2, WAV}
 use Rattle.messages.specs.Refusals.{rank, least}
 use Rattle.messages.specs.format.{Part, all_refuse}
-use Rattle.messages.specs.Fields.{u7, tuning, high, type_bytes}
+use Rattle.messages.specs.Fields.{u7, s7, s14, tuning, high, type_bytes}
 use Rattle.messages.specs.Structures.{key_tuning, AfterMaker, reply, revision, identity_reply}
 use Rattle.messages.specs.Maps.{BankSelect, map_list, map_offset, WAVSelect, only_wav_map, wav_map_offset, AnySelect, of_bank, of_wav, bank_select, wav_select, select_for, sound_file_map}
 use Rattle.messages.specs.Layouts.{Fields, form}
@@ -36,9 +36,6 @@ then_list p h r l = rw (all_none p h l) (least_by_left rank r)
 name_list : {A : Type 0} (p : Part A) → ((a : A) → p.refuses a ≡ none) → (n : List ℕ) (k : ℕ) (l : List A)
     → least (least (high n) (all_refuse u7 (take k n))) (all_refuse p l) ≡ high n
 name_list p h n k l = ap (λ (r : Option Refusal). least r (all_refuse p l)) (then_list u7 (λ a. refl) (high n) (take k n)) ∙ then_list p h (high n) l
-
-name_then : (n : List ℕ) (k : ℕ) → least (least (high n) (all_refuse u7 (take k n))) none ≡ high n
-name_then n k = least_by_left rank _ ∙ then_list u7 (λ a. refl) (high n) (take k n)
 
 reply_same : (m : ManufacturerID) (x : AfterMaker) → identity_reply.refuses (reply m x) ≡ zero_maker m
 reply_same (OneByte b) x = least_by_left rank _ ∙ least_by_left rank _
@@ -72,8 +69,8 @@ contents_same FileDumpPacket f = refl
 contents_same FileDumpRequest f = rw (least_by_left rank (high (type_bytes f.type)))
 contents_same KeyBasedTuningDump f = name_list tuning (λ a. refl) f.name 16 (take 128 f.tunings)
 contents_same BankKeyBasedTuningDump f = name_list tuning (λ a. refl) f.name 16 (take 128 f.tunings)
-contents_same ScaleTuningDump1Byte f = name_then f.name 16
-contents_same ScaleTuningDump2Byte f = name_then f.name 16
+contents_same ScaleTuningDump1Byte f = name_list s7 (λ a. refl) f.name 16 (take 12 f.scale)
+contents_same ScaleTuningDump2Byte f = name_list s14 (λ a. refl) f.name 16 (take 12 f.scale)
 contents_same TuningNoteChange f = then_list key_tuning (λ a. refl) (longer most_changes f.changes) (take most_counted f.changes)
 contents_same FileReferenceOpen f = refl
 contents_same FileReferenceOpenSelect f = rw (map_same f.type f.map)
@@ -90,8 +87,8 @@ contents_same ExtendedLoopPointsRequest f = refl
 contents_same IdentityRequest f = refl
 contents_same TuningBulkDumpRequest f = refl
 contents_same BankTuningBulkDumpRequest f = refl
-contents_same ScaleTuning1Byte f = refl
-contents_same ScaleTuning2Byte f = refl
+contents_same ScaleTuning1Byte f = all_none s7 (λ a. refl) (take 12 f.scale)
+contents_same ScaleTuning2Byte f = all_none s14 (λ a. refl) (take 12 f.scale)
 contents_same GeneralMidi1 f = refl
 contents_same GeneralMidiOff f = refl
 contents_same GeneralMidi2 f = refl

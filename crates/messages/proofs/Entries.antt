@@ -8,8 +8,9 @@ use native.Mathlib.Omega.{arith}
 use lib.Arith.{digits_div, digits_mod}
 use lib.Dec.{eqb}
 use borrow.Author.Tests.{lt-ltb}
-use Rattle.messages.specs.declared.tuning.MaybeTuning.{MaybeTuning}
-use Rattle.messages.specs.declared.tuning.MaybeTuning.TheVariants.{NoTuning, Tuned}
+use Rattle.std.specs.declared.option.Option.{Option}
+use Rattle.std.specs.declared.option.Option.TheVariants.{None, Some}
+use Rattle.messages.specs.declared.tuning.Tuning.{Tuning}
 use Rattle.messages.specs.declared.tuning.KeyTuning.{KeyTuning}
 use Rattle.messages.specs.declared.file_reference.SoundFileMap.{SoundFileMap}
 use Rattle.messages.specs.Fields.{bit, is_set}
@@ -34,17 +35,17 @@ set_test (suc (suc v)) h = absurd (omega arith)
 -- ---- tunings and note changes
 
 -- the numbers are within their types
-abbrev pub Within : MaybeTuning → Type 0
-Within NoTuning = Unit {0}
-Within (Tuned t) = (t.semitone < 256) × (t.fraction < 65536)
+abbrev pub Within : Option Tuning → Type 0
+Within None = Unit {0}
+Within (Some t) = (t.semitone < 256) × (t.fraction < 65536)
 
-pub tuning_below : (t : MaybeTuning) → Within t → tuning_entry t ≤ 2 ^ 24
-tuning_below NoTuning h = omega arith
-tuning_below (Tuned t) h = omega arith
+pub tuning_below : (t : Option Tuning) → Within t → tuning_entry t ≤ 2 ^ 24
+tuning_below None h = omega arith
+tuning_below (Some t) h = omega arith
 
-pub tuning_back : (t : MaybeTuning) → Within t → tuning_of (tuning_entry t) ≡ t
-tuning_back NoTuning h = refl
-tuning_back (Tuned t) h =
+pub tuning_back : (t : Option Tuning) → Within t → tuning_of (tuning_entry t) ≡ t
+tuning_back None h = refl
+tuning_back (Some t) h =
     rw (lt-ltb (t.semitone * 65536 + t.fraction) (2 ^ 24) (omega arith), digits_div t.semitone h.1, digits_mod t.semitone h.1)
 
 pub change_back : (c : KeyTuning) → c.key < 256 → Within c.tuning → change_of (change_entry c) ≡ c

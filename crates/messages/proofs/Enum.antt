@@ -3,12 +3,13 @@
 use mathlib.Core.Path.{◌≡◌, refl, sym, ap, ◌∙◌}
 use mathlib.Core.List.{List}
 use Prim.Native.Nat.{ℕ}
-use Rattle.messages.specs.Types.{Head, DeviceID, SampleDumpMsg, ExtendedSampleDumpMsg, FileDumpMsg, TuningBank, GeneralMidi, SelectMap, FileReferenceMsg, UniversalNonRealTimeMsg}
+use Rattle.messages.specs.Types.{Head, DeviceID, SampleDumpMsg, ExtendedSampleDumpMsg, FileDumpMsg, GeneralMidi, SelectMap, FileReferenceMsg, UniversalNonRealTimeMsg}
 use Rattle.messages.specs.declared.head.Head.TheVariants as head
 use Rattle.messages.specs.declared.sample_dump.SampleDumpMsg.TheVariants as sample
 use Rattle.messages.specs.declared.sample_dump.ExtendedSampleDumpMsg.TheVariants as extended
 use Rattle.messages.specs.declared.file_dump.FileDumpMsg.TheVariants as file
-use Rattle.messages.specs.declared.tuning.TuningBank.TheVariants.{NoBank, Bank}
+use Rattle.std.specs.declared.option.Option.{Option}
+use Rattle.std.specs.declared.option.Option.TheVariants.{None, Some}
 use Rattle.messages.specs.declared.general_midi.GeneralMidi.TheVariants.{GM1, Off, GM2}
 use Rattle.messages.specs.declared.file_reference.SelectMap.TheVariants as select
 use Rattle.messages.specs.declared.file_reference.FileReferenceMsg.TheVariants as reference
@@ -50,10 +51,10 @@ enum_in head.IdentityReply f = msg.IdentityReply f
 enum_in head.FileDumpHeader f = msg.FileDump (file.Header f.sender f.type f.length)
 enum_in head.FileDumpPacket f = msg.FileDump (file.Packet f.count)
 enum_in head.FileDumpRequest f = msg.FileDump (file.Request f.requester f.type)
-enum_in head.TuningBulkDumpRequest f = msg.TuningBulkDumpRequest NoBank f
-enum_in head.BankTuningBulkDumpRequest f = msg.TuningBulkDumpRequest (Bank f.bank) f.program
-enum_in head.KeyBasedTuningDump f = msg.KeyBasedTuningDump (record { tuning_bank_num = NoBank; tuning_program_num = f.program })
-enum_in head.BankKeyBasedTuningDump f = msg.KeyBasedTuningDump (record { tuning_bank_num = Bank f.bank; tuning_program_num = f.program })
+enum_in head.TuningBulkDumpRequest f = msg.TuningBulkDumpRequest None f
+enum_in head.BankTuningBulkDumpRequest f = msg.TuningBulkDumpRequest (Some f.bank) f.program
+enum_in head.KeyBasedTuningDump f = msg.KeyBasedTuningDump (record { tuning_bank_num = None; tuning_program_num = f.program })
+enum_in head.BankKeyBasedTuningDump f = msg.KeyBasedTuningDump (record { tuning_bank_num = Some f.bank; tuning_program_num = f.program })
 enum_in head.ScaleTuningDump1Byte f = msg.ScaleTuningDump1Byte (record { tuning_bank_num = f.bank; tuning_program_num = f.program; tuning = f.scale })
 enum_in head.ScaleTuningDump2Byte f = msg.ScaleTuningDump2Byte (record { tuning_bank_num = f.bank; tuning_program_num = f.program; tuning = f.scale })
 enum_in head.TuningNoteChange f = msg.TuningNoteChange (record { tuning_bank_num = f.bank; tuning_program_num = f.program })
@@ -97,14 +98,14 @@ file_back (file.Header d t l) text = refl
 file_back (file.Packet c) text = refl
 file_back (file.Request d t) text = refl
 
-request_back : (b : TuningBank) (p : ℕ) → enum_in (head_request b) (fields_request b p) ≡ msg.TuningBulkDumpRequest b p
-request_back NoBank p = refl
-request_back (Bank b) p = refl
+request_back : (b : Option ℕ) (p : ℕ) → enum_in (head_request b) (fields_request b p) ≡ msg.TuningBulkDumpRequest b p
+request_back None p = refl
+request_back (Some b) p = refl
 
-keys_back : (b : TuningBank) (p : ℕ) (text entries : List ℕ)
+keys_back : (b : Option ℕ) (p : ℕ) (text entries : List ℕ)
     → enum_in (head_keys b) (fields_keys b p text entries) ≡ msg.KeyBasedTuningDump (record { tuning_bank_num = b; tuning_program_num = p })
-keys_back NoBank p text entries = refl
-keys_back (Bank b) p text entries = refl
+keys_back None p text entries = refl
+keys_back (Some b) p text entries = refl
 
 midi_back : (g : GeneralMidi) → enum_in (head_midi g) (fields_midi g) ≡ msg.GeneralMidi g
 midi_back GM1 = refl

@@ -14,7 +14,7 @@ use Rattle.util.proofs.Laws.Groups.{value_groups}
 use Rattle.util.proofs.Laws.Refusals.{number_some}
 use Rattle.messages.specs.Types.{Refusal, ManufacturerID, IdentityReply}
 use Rattle.messages.specs.declared.system_exclusive.ManufacturerID.TheVariants.{OneByte, Extended}
-use Rattle.messages.specs.declared.system_exclusive.IdentityReading.TheVariants.{Reply, Refused}
+use Rattle.std.specs.declared.result.Result.TheVariants.{Ok, Err}
 use Rattle.messages.specs.Structures.{AfterMaker, reply, revision, identity_reply}
 use Rattle.messages.specs.Identity.{Row, first_of, first_number, rows, reply_in, identity_of, identity_number, identity_value}
 use Rattle.messages.specs.Promises.{IdentityExactly, IdentityBack}
@@ -23,7 +23,7 @@ use Rattle.messages.specs.Promises.{IdentityExactly, IdentityBack}
 
 -- one row before others, by its test
 number_by : (t : Bool) (x : Refusal) (xs : List Row) (r : IdentityReply) → identity_number (first_of xs r) ≡ first_number xs
-    → identity_number (pick t (Refused x) (first_of xs r)) ≡ pick t (number x) (first_number xs)
+    → identity_number (pick t (Err x) (first_of xs r)) ≡ pick t (number x) (first_number xs)
 number_by true x xs r e = refl
 number_by false x xs r e = e
 
@@ -32,7 +32,7 @@ first_numbered [] r = refl
 first_numbered (x ∷ xs) r = number_by x.0 x.1 xs r (first_numbered xs r)
 
 value_by : (t : Bool) (x : Refusal) (xs : List Row) (r : IdentityReply) → (first_number xs ≡ 0 → identity_value (first_of xs r) ≡ some r)
-    → pick t (number x) (first_number xs) ≡ 0 → identity_value (pick t (Refused x) (first_of xs r)) ≡ some r
+    → pick t (number x) (first_number xs) ≡ 0 → identity_value (pick t (Err x) (first_of xs r)) ≡ some r
 value_by true x xs r k e = absurd (omega (arith, number_some x))
 value_by false x xs r k e = k e
 
@@ -53,7 +53,7 @@ one : (v : ℕ) → v < 128 ^ 1 → v % 128 ≡ v
 one v h = omega arith
 
 back : (m : ManufacturerID) (x : AfterMaker) → identity_reply.settled (reply m x)
-    → identity_of (0x06 ∷ 0x02 ∷ identity_reply.bytes (reply m x)) ≡ Reply (reply m x)
+    → identity_of (0x06 ∷ 0x02 ∷ identity_reply.bytes (reply m x)) ≡ Ok (reply m x)
 unfolding identity_of
 back (OneByte b) x h =
     rw (

@@ -6,7 +6,10 @@ use mathlib.Core.List.{List, [], ◌∷◌, ◌++◌}
 use Prim.Native.Nat.{ℕ}
 use lib.IntN.{pos, negsuc}
 use lib.ListN.{get_or, take, drop, replicate}
-use Rattle.messages.specs.Types.{Refusal, Kind, WAVMap, ManufacturerID}
+use Rattle.std.specs.declared.option.Option.TheVariants.{None, Some}
+use Rattle.std.specs.declared.result.Result.{Result}
+use Rattle.std.specs.declared.result.Result.TheVariants.{Ok, Err}
+use Rattle.messages.specs.Types.{Refusal, Kind, WAVMap, ManufacturerID, IdentityReply}
 use Rattle.util.specs.declared.refusal.Refusal.TheVariants.{High, Long, Value, Shape, Field, Sum}
 use Rattle.util.specs.declared.refusal.Refusal.TheVariants as R
 use Rattle.messages.specs.declared.file_reference.Kind.TheVariants as kind
@@ -20,11 +23,8 @@ use Rattle.messages.specs.declared.sample_dump.ExtendedSampleDumpMsg.TheVariants
 use Rattle.messages.specs.declared.sample_dump.LoopType.TheVariants.{Off}
 use Rattle.messages.specs.declared.sample_dump.LoopNumber.TheVariants.{Loop, RequestAll, DeleteAll}
 use Rattle.messages.specs.declared.sample_dump.ExtendedLoopType.TheVariants.{Backward, OneShot}
-use Rattle.messages.specs.declared.tuning.TuningBank.TheVariants.{NoBank, Bank}
 use Rattle.messages.specs.declared.system_exclusive.DeviceID.TheVariants.{Device, AllCall}
 use Rattle.messages.specs.declared.system_exclusive.ManufacturerID.TheVariants.{OneByte, Extended}
-use Rattle.messages.specs.declared.system_exclusive.IdentityReading.{IdentityReading}
-use Rattle.messages.specs.declared.system_exclusive.IdentityReading.TheVariants as identity-reading
 use Rattle.messages.specs.declared.system_exclusive.UniversalNonRealTimeMsg.TheVariants as msg
 use Rattle.messages.specs.Messages.{Message, Answer, refused, given, refusal, settle, write_of, read_of}
 use Rattle.messages.specs.MessageOf.{message_of}
@@ -41,7 +41,7 @@ pub data Line : Type 0 where
   refuses_read : ℕ → Kind → List ℕ → Refusal → Line
   lists : ℕ → Kind → List ℕ → List Stretch → Line
   settles : Message → Message → Line
-  identity : List ℕ → IdentityReading → Line
+  identity : List ℕ → Result IdentityReply Refusal → Line
 
 -- the bytes of a frame
 abbrev pub frame_bytes : Answer (List ℕ) → List ℕ
@@ -109,7 +109,7 @@ starred = (refl, (refl, (refl, (refl, (refl, (refl, (refl, (refl, (refl, (refl, 
 -- ---- a frame for each kind of field, and the refusals
 
 abbrev pub scale_dump : List ℕ → Message
-scale_dump name = message_of (Device 0) (msg.ScaleTuningDump1Byte (record { tuning_bank_num = 0; tuning_program_num = 0; tuning = record { c = pos 0; c_sharp = pos 0; d = pos 0; d_sharp = pos 0; e = pos 0; f = pos 0; f_sharp = pos 0; g = pos 0; g_sharp = pos 0; a = pos 0; a_sharp = pos 0; b = pos 0 } })) name []
+scale_dump name = message_of (Device 0) (msg.ScaleTuningDump1Byte (record { tuning_bank_num = 0; tuning_program_num = 0; tuning = replicate 12 (pos 0) })) name []
 
 abbrev pub file_header : ℕ → List ℕ → Message
 file_header length name = message_of (Device 0) (msg.FileDump (file.Header AllCall MIDI length)) name []
@@ -117,9 +117,9 @@ file_header length name = message_of (Device 0) (msg.FileDump (file.Header AllCa
 pub field_kinds :
     All
     ( -- a tuning's fraction, high group first; no tuning; a note change without a bank
-    writes 0 (message_of (Device 0) (msg.TuningNoteChange (record { tuning_bank_num = NoBank; tuning_program_num = 5 })) [] (2030043136 ∷ 2050818348 ∷ [])) (0xF0 ∷ 0x7E ∷ 0x00 ∷ 0x08 ∷ 0x07 ∷ 0x00 ∷ 0x05 ∷ 0x02 ∷ 0x3C ∷ 0x7F ∷ 0x7F ∷ 0x7F ∷ 0x3D ∷ 0x3D ∷ 0x02 ∷ 0x2C ∷ 0xF7 ∷ [])
+    writes 0 (message_of (Device 0) (msg.TuningNoteChange (record { tuning_bank_num = None; tuning_program_num = 5 })) [] (2030043136 ∷ 2050818348 ∷ [])) (0xF0 ∷ 0x7E ∷ 0x00 ∷ 0x08 ∷ 0x07 ∷ 0x00 ∷ 0x05 ∷ 0x02 ∷ 0x3C ∷ 0x7F ∷ 0x7F ∷ 0x7F ∷ 0x3D ∷ 0x3D ∷ 0x02 ∷ 0x2C ∷ 0xF7 ∷ [])
     -- channels 1, 9 and 16; signed 14 at both ends, below its range and about 0
-    ∷ writes 0 (message_of (Device 0) (msg.ScaleTuning2Byte (record { channels = record { channels = 33025 }; tuning = record { c = negsuc 8191; c_sharp = negsuc 0; d = pos 0; d_sharp = pos 8191; e = negsuc 8192; f = pos 0; f_sharp = pos 0; g = pos 0; g_sharp = pos 0; a = pos 0; a_sharp = pos 0; b = pos 0 } })) [] []) (0xF0 ∷ 0x7E ∷ 0x00 ∷ 0x08 ∷ 0x09 ∷ 0x02 ∷ 0x02 ∷ 0x01 ∷ 0x00 ∷ 0x00 ∷ 0x7F ∷ 0x3F ∷ 0x00 ∷ 0x40 ∷ 0x7F ∷ 0x7F ∷ 0x00 ∷ 0x00 ∷ 0x00 ∷ 0x40 ∷ 0x00 ∷ 0x40 ∷ 0x00 ∷ 0x40 ∷ 0x00 ∷ 0x40 ∷ 0x00 ∷ 0x40 ∷ 0x00 ∷ 0x40 ∷ 0x00 ∷ 0x40 ∷ 0xF7 ∷ [])
+    ∷ writes 0 (message_of (Device 0) (msg.ScaleTuning2Byte (record { channels = record { channels = 33025 }; tuning = negsuc 8191 ∷ negsuc 0 ∷ pos 0 ∷ pos 8191 ∷ negsuc 8192 ∷ replicate 7 (pos 0) })) [] []) (0xF0 ∷ 0x7E ∷ 0x00 ∷ 0x08 ∷ 0x09 ∷ 0x02 ∷ 0x02 ∷ 0x01 ∷ 0x00 ∷ 0x00 ∷ 0x7F ∷ 0x3F ∷ 0x00 ∷ 0x40 ∷ 0x7F ∷ 0x7F ∷ 0x00 ∷ 0x00 ∷ 0x00 ∷ 0x40 ∷ 0x00 ∷ 0x40 ∷ 0x00 ∷ 0x40 ∷ 0x00 ∷ 0x40 ∷ 0x00 ∷ 0x40 ∷ 0x00 ∷ 0x40 ∷ 0x00 ∷ 0x40 ∷ 0xF7 ∷ [])
     -- u35: 2^28, and 2^35 held
     ∷ writes 0 (message_of (Device 0) (msg.ExtendedSampleDump (extended.LoopPointTransmission 1 (Loop 2) Backward 268435456 34359738368)) [] []) (0xF0 ∷ 0x7E ∷ 0x00 ∷ 0x05 ∷ 0x06 ∷ 0x01 ∷ 0x00 ∷ 0x02 ∷ 0x00 ∷ 0x40 ∷ 0x00 ∷ 0x00 ∷ 0x00 ∷ 0x00 ∷ 0x01 ∷ 0x7F ∷ 0x7F ∷ 0x7F ∷ 0x7F ∷ 0x7F ∷ 0xF7 ∷ [])
     -- eight bytes of file data
@@ -129,11 +129,11 @@ pub field_kinds :
     -- two bank maps: source drum, then target drum with every number held
     ∷ writes 0 (message_of (Device 0) (msg.FileReference (reference.SelectContents 0 select.SoundFile)) [] (4432407040612 ∷ 72059793061183999 ∷ [])) (0xF0 ∷ 0x7E ∷ 0x00 ∷ 0x0B ∷ 0x02 ∷ 0x00 ∷ 0x00 ∷ 0x11 ∷ 0x00 ∷ 0x02 ∷ 0x01 ∷ 0x00 ∷ 0x02 ∷ 0x03 ∷ 0x00 ∷ 0x04 ∷ 0x01 ∷ 0x64 ∷ 0x7F ∷ 0x7F ∷ 0x7F ∷ 0x00 ∷ 0x00 ∷ 0x00 ∷ 0x02 ∷ 0x7F ∷ 0xF7 ∷ [])
     -- a maker of three bytes
-    ∷ writes 0 (message_of AllCall (msg.IdentityReply (record { id = Extended 0x20 0x33; family = 300; family_member = 2; software_revision = record { first = 1; second = 2; third = 3; fourth = 200 } })) [] []) (0xF0 ∷ 0x7E ∷ 0x7F ∷ 0x06 ∷ 0x02 ∷ 0x00 ∷ 0x20 ∷ 0x33 ∷ 0x2C ∷ 0x02 ∷ 0x02 ∷ 0x00 ∷ 0x01 ∷ 0x02 ∷ 0x03 ∷ 0x7F ∷ 0xF7 ∷ [])
+    ∷ writes 0 (message_of AllCall (msg.IdentityReply (record { id = Extended 0x20 0x33; family = 300; family_member = 2; software_revision = (1, 2, 3, 200) })) [] []) (0xF0 ∷ 0x7E ∷ 0x7F ∷ 0x06 ∷ 0x02 ∷ 0x00 ∷ 0x20 ∷ 0x33 ∷ 0x2C ∷ 0x02 ∷ 0x02 ∷ 0x00 ∷ 0x01 ∷ 0x02 ∷ 0x03 ∷ 0x7F ∷ 0xF7 ∷ [])
     -- a maker of one byte, held to 7C
-    ∷ writes 0 (message_of AllCall (msg.IdentityReply (record { id = OneByte 0x7D; family = 0; family_member = 16384; software_revision = record { first = 1; second = 0; third = 0; fourth = 0 } })) [] []) (0xF0 ∷ 0x7E ∷ 0x7F ∷ 0x06 ∷ 0x02 ∷ 0x7C ∷ 0x00 ∷ 0x00 ∷ 0x7F ∷ 0x7F ∷ 0x01 ∷ 0x00 ∷ 0x00 ∷ 0x00 ∷ 0xF7 ∷ [])
+    ∷ writes 0 (message_of AllCall (msg.IdentityReply (record { id = OneByte 0x7D; family = 0; family_member = 16384; software_revision = (1, 0, 0, 0) })) [] []) (0xF0 ∷ 0x7E ∷ 0x7F ∷ 0x06 ∷ 0x02 ∷ 0x7C ∷ 0x00 ∷ 0x00 ∷ 0x7F ∷ 0x7F ∷ 0x01 ∷ 0x00 ∷ 0x00 ∷ 0x00 ∷ 0xF7 ∷ [])
     -- a file header with a custom type and a length of four groups
-    ∷ writes 0 (message_of (Device 3) (msg.FileDump (file.Header AllCall (Custom 0x41 0x42 0x43 0x44) 2097153)) (0x41 ∷ []) []) (0xF0 ∷ 0x7E ∷ 0x03 ∷ 0x07 ∷ 0x01 ∷ 0x7F ∷ 0x41 ∷ 0x42 ∷ 0x43 ∷ 0x44 ∷ 0x01 ∷ 0x00 ∷ 0x00 ∷ 0x01 ∷ 0x41 ∷ 0xF7 ∷ [])
+    ∷ writes 0 (message_of (Device 3) (msg.FileDump (file.Header AllCall (Custom (0x41 ∷ 0x42 ∷ 0x43 ∷ 0x44 ∷ [])) 2097153)) (0x41 ∷ []) []) (0xF0 ∷ 0x7E ∷ 0x03 ∷ 0x07 ∷ 0x01 ∷ 0x7F ∷ 0x41 ∷ 0x42 ∷ 0x43 ∷ 0x44 ∷ 0x01 ∷ 0x00 ∷ 0x00 ∷ 0x01 ∷ 0x41 ∷ 0xF7 ∷ [])
     -- open and select: URL, 00, offset
     ∷ writes 0 (message_of (Device 0) (msg.FileReference (reference.OpenSelectContents 0 DLS (select.SoundFileBankOffset 130 true))) (0x61 ∷ []) []) (0xF0 ∷ 0x7E ∷ 0x00 ∷ 0x0B ∷ 0x03 ∷ 0x00 ∷ 0x00 ∷ 0x0D ∷ 0x00 ∷ 0x44 ∷ 0x4C ∷ 0x53 ∷ 0x20 ∷ 0x61 ∷ 0x00 ∷ 0x00 ∷ 0x00 ∷ 0x01 ∷ 0x03 ∷ 0x02 ∷ 0x01 ∷ 0x01 ∷ 0xF7 ∷ [])
     -- a loop number: "all"
@@ -164,8 +164,8 @@ pub field_kinds :
     ∷ refuses 0 (message_of (Device 0) (msg.ExtendedSampleDump (extended.SampleName 0)) (replicate 127 0x61 ++ (0x80 ∷ [])) []) High
     ∷ refuses 0 (message_of (Device 0) (msg.FileReference (reference.Open 0 DLS)) (replicate 260 0x61 ++ (0 ∷ [])) []) High
     -- a one-byte maker 00; 128 note changes
-    ∷ refuses 0 (message_of AllCall (msg.IdentityReply (record { id = OneByte 0; family = 0; family_member = 0; software_revision = record { first = 0; second = 0; third = 0; fourth = 0 } })) [] []) Value
-    ∷ refuses 0 (message_of (Device 0) (msg.TuningNoteChange (record { tuning_bank_num = Bank 1; tuning_program_num = 5 })) [] (replicate 128 0)) Long
+    ∷ refuses 0 (message_of AllCall (msg.IdentityReply (record { id = OneByte 0; family = 0; family_member = 0; software_revision = (0, 0, 0, 0) })) [] []) Value
+    ∷ refuses 0 (message_of (Device 0) (msg.TuningNoteChange (record { tuning_bank_num = Some 1; tuning_program_num = 5 })) [] (replicate 128 0)) Long
     ∷ [])
 unfolding write_of refusal settle read_of
 field_kinds = (refl, (refl, (refl, (refl, (refl, (refl, (refl, (refl, (refl, (refl, (refl, (refl, (refl, (refl, (refl, (refl, (refl, (refl, (refl, (refl, (refl, (refl, (refl, (refl, (refl, (refl, (refl, (refl, (refl, (refl, tt))))))))))))))))))))))))))))))
@@ -174,7 +174,7 @@ field_kinds = (refl, (refl, (refl, (refl, (refl, (refl, (refl, (refl, (refl, (re
 
 abbrev pub reply_from : ManufacturerID → Message
 reply_from m =
-    message_of AllCall (msg.IdentityReply (record { id = m; family = 0; family_member = 0; software_revision = record { first = 0; second = 0; third = 0; fourth = 0 } })) [] []
+    message_of AllCall (msg.IdentityReply (record { id = m; family = 0; family_member = 0; software_revision = (0, 0, 0, 0) })) [] []
 
 pub settled_forms :
     All
@@ -183,10 +183,10 @@ pub settled_forms :
     ∷ settles (message_of (Device 200) msg.EOF [] []) (message_of AllCall msg.EOF [] [])
     ∷ settles (message_of (Device 126) msg.EOF [] []) (message_of (Device 126) msg.EOF [] [])
     -- a named type where the four bytes spell one
-    ∷ settles (message_of AllCall (msg.FileDump (file.Request (Device 127) (Custom 0x4D 0x49 0x44 0x49))) [] []) (message_of AllCall (msg.FileDump (file.Request AllCall MIDI)) [] [])
+    ∷ settles (message_of AllCall (msg.FileDump (file.Request (Device 127) (Custom (0x4D ∷ 0x49 ∷ 0x44 ∷ 0x49 ∷ [])))) [] []) (message_of AllCall (msg.FileDump (file.Request AllCall MIDI)) [] [])
     -- no tuning for 7F 7F 7F, from any tuning that is held there; a bank for none
-    ∷ settles (message_of AllCall (msg.TuningNoteChange (record { tuning_bank_num = NoBank; tuning_program_num = 0 })) [] (8339455 ∷ 16777215 ∷ []))
-    (message_of AllCall (msg.TuningNoteChange (record { tuning_bank_num = Bank 0; tuning_program_num = 0 })) [] (16777216 ∷ 16777216 ∷ []))
+    ∷ settles (message_of AllCall (msg.TuningNoteChange (record { tuning_bank_num = None; tuning_program_num = 0 })) [] (8339455 ∷ 16777215 ∷ []))
+    (message_of AllCall (msg.TuningNoteChange (record { tuning_bank_num = Some 0; tuning_program_num = 0 })) [] (16777216 ∷ 16777216 ∷ []))
     -- a maker byte held to 7C
     ∷ settles (reply_from (OneByte 0x7D)) (reply_from (OneByte 0x7C))
     -- loop number 16,383: request all in 05 02 and 05 07, delete all in 05 01 and 05 06
@@ -200,7 +200,7 @@ pub settled_forms :
     -- device 7F is read as all call
     ∷ reads 0 kind.Bank (0xF0 ∷ 0x7E ∷ 0x7F ∷ 0x7B ∷ 0x00 ∷ 0xF7 ∷ []) (message_of AllCall msg.EOF [] [])
     -- a note change's bank 00, and a named type, are read as such
-    ∷ reads 0 kind.Bank (0xF0 ∷ 0x7E ∷ 0x00 ∷ 0x08 ∷ 0x07 ∷ 0x00 ∷ 0x00 ∷ 0x00 ∷ 0xF7 ∷ []) (message_of (Device 0) (msg.TuningNoteChange (record { tuning_bank_num = Bank 0; tuning_program_num = 0 })) [] [])
+    ∷ reads 0 kind.Bank (0xF0 ∷ 0x7E ∷ 0x00 ∷ 0x08 ∷ 0x07 ∷ 0x00 ∷ 0x00 ∷ 0x00 ∷ 0xF7 ∷ []) (message_of (Device 0) (msg.TuningNoteChange (record { tuning_bank_num = Some 0; tuning_program_num = 0 })) [] [])
     ∷ reads 0 kind.Bank (0xF0 ∷ 0x7E ∷ 0x00 ∷ 0x07 ∷ 0x03 ∷ 0x00 ∷ 0x4D ∷ 0x41 ∷ 0x43 ∷ 0x20 ∷ 0xF7 ∷ []) (message_of (Device 0) (msg.FileDump (file.Request (Device 0) MAC)) [] [])
     -- a name of another length than 16: HIGH looks at the whole of it; it is filled with spaces
     ∷ refuses 0 (scale_dump (replicate 16 0x20 ++ (0x80 ∷ []))) High
@@ -214,25 +214,25 @@ settled_forms = (refl, (refl, (refl, (refl, (refl, (refl, (refl, (refl, (refl, (
 pub identity_readings :
     All
     ( -- no byte, one byte, another head, no maker byte
-    identity [] (identity-reading.Refused R.UnexpectedEnd)
-    ∷ identity (0x06 ∷ []) (identity-reading.Refused R.UnexpectedEnd)
-    ∷ identity (0x06 ∷ 0x01 ∷ []) (identity-reading.Refused R.NotImplemented)
-    ∷ identity (0x07 ∷ 0x02 ∷ 0x80 ∷ []) (identity-reading.Refused R.NotImplemented)
-    ∷ identity (0x06 ∷ 0x02 ∷ []) (identity-reading.Refused R.UnexpectedEnd)
+    identity [] (Err R.UnexpectedEnd)
+    ∷ identity (0x06 ∷ []) (Err R.UnexpectedEnd)
+    ∷ identity (0x06 ∷ 0x01 ∷ []) (Err R.NotImplemented)
+    ∷ identity (0x07 ∷ 0x02 ∷ 0x80 ∷ []) (Err R.NotImplemented)
+    ∷ identity (0x06 ∷ 0x02 ∷ []) (Err R.UnexpectedEnd)
     -- a maker byte over 7F; a maker byte 00 with one byte after it; either of the two over 7F
-    ∷ identity (0x06 ∷ 0x02 ∷ 0x80 ∷ []) (identity-reading.Refused R.ByteOverflow)
-    ∷ identity (0x06 ∷ 0x02 ∷ 0x00 ∷ 0x80 ∷ []) (identity-reading.Refused R.UnexpectedEnd)
-    ∷ identity (0x06 ∷ 0x02 ∷ 0x00 ∷ 0x80 ∷ 0x00 ∷ []) (identity-reading.Refused R.ByteOverflow)
-    ∷ identity (0x06 ∷ 0x02 ∷ 0x00 ∷ 0x00 ∷ 0x80 ∷ []) (identity-reading.Refused R.ByteOverflow)
+    ∷ identity (0x06 ∷ 0x02 ∷ 0x80 ∷ []) (Err R.ByteOverflow)
+    ∷ identity (0x06 ∷ 0x02 ∷ 0x00 ∷ 0x80 ∷ []) (Err R.UnexpectedEnd)
+    ∷ identity (0x06 ∷ 0x02 ∷ 0x00 ∷ 0x80 ∷ 0x00 ∷ []) (Err R.ByteOverflow)
+    ∷ identity (0x06 ∷ 0x02 ∷ 0x00 ∷ 0x00 ∷ 0x80 ∷ []) (Err R.ByteOverflow)
     -- 7 bytes after the maker; a family or member group over 7F
-    ∷ identity (0x06 ∷ 0x02 ∷ 0x41 ∷ 0x80 ∷ 0x00 ∷ 0x00 ∷ 0x00 ∷ 0x00 ∷ 0x00 ∷ 0x00 ∷ []) (identity-reading.Refused R.UnexpectedEnd)
-    ∷ identity (0x06 ∷ 0x02 ∷ 0x00 ∷ 0x20 ∷ 0x33 ∷ 0x00 ∷ 0x00 ∷ 0x00 ∷ 0x00 ∷ 0x00 ∷ 0x00 ∷ 0x00 ∷ []) (identity-reading.Refused R.UnexpectedEnd)
-    ∷ identity (0x06 ∷ 0x02 ∷ 0x41 ∷ 0x80 ∷ 0x00 ∷ 0x00 ∷ 0x00 ∷ 0x00 ∷ 0x00 ∷ 0x00 ∷ 0x00 ∷ []) (identity-reading.Refused R.ByteOverflow)
-    ∷ identity (0x06 ∷ 0x02 ∷ 0x41 ∷ 0x00 ∷ 0x00 ∷ 0x00 ∷ 0x80 ∷ 0x00 ∷ 0x00 ∷ 0x00 ∷ 0x00 ∷ []) (identity-reading.Refused R.ByteOverflow)
+    ∷ identity (0x06 ∷ 0x02 ∷ 0x41 ∷ 0x80 ∷ 0x00 ∷ 0x00 ∷ 0x00 ∷ 0x00 ∷ 0x00 ∷ 0x00 ∷ []) (Err R.UnexpectedEnd)
+    ∷ identity (0x06 ∷ 0x02 ∷ 0x00 ∷ 0x20 ∷ 0x33 ∷ 0x00 ∷ 0x00 ∷ 0x00 ∷ 0x00 ∷ 0x00 ∷ 0x00 ∷ 0x00 ∷ []) (Err R.UnexpectedEnd)
+    ∷ identity (0x06 ∷ 0x02 ∷ 0x41 ∷ 0x80 ∷ 0x00 ∷ 0x00 ∷ 0x00 ∷ 0x00 ∷ 0x00 ∷ 0x00 ∷ 0x00 ∷ []) (Err R.ByteOverflow)
+    ∷ identity (0x06 ∷ 0x02 ∷ 0x41 ∷ 0x00 ∷ 0x00 ∷ 0x00 ∷ 0x80 ∷ 0x00 ∷ 0x00 ∷ 0x00 ∷ 0x00 ∷ []) (Err R.ByteOverflow)
     -- maker 7D is taken; revision bytes are not tested; a trailing byte is ignored
-    ∷ identity (0x06 ∷ 0x02 ∷ 0x7D ∷ 0x2C ∷ 0x02 ∷ 0x02 ∷ 0x00 ∷ 0x01 ∷ 0x02 ∷ 0x03 ∷ 0xF7 ∷ 0xF7 ∷ []) (identity-reading.Reply (record { id = OneByte 0x7D; family = 300; family_member = 2; software_revision = record { first = 1; second = 2; third = 3; fourth = 0xF7 } }))
+    ∷ identity (0x06 ∷ 0x02 ∷ 0x7D ∷ 0x2C ∷ 0x02 ∷ 0x02 ∷ 0x00 ∷ 0x01 ∷ 0x02 ∷ 0x03 ∷ 0xF7 ∷ 0xF7 ∷ []) (Ok (record { id = OneByte 0x7D; family = 300; family_member = 2; software_revision = (1, 2, 3, 0xF7) }))
     -- a maker of three bytes
-    ∷ identity (0x06 ∷ 0x02 ∷ 0x00 ∷ 0x20 ∷ 0x33 ∷ 0x2C ∷ 0x02 ∷ 0x02 ∷ 0x00 ∷ 0x01 ∷ 0x02 ∷ 0x03 ∷ 0x04 ∷ []) (identity-reading.Reply (record { id = Extended 0x20 0x33; family = 300; family_member = 2; software_revision = record { first = 1; second = 2; third = 3; fourth = 4 } }))
+    ∷ identity (0x06 ∷ 0x02 ∷ 0x00 ∷ 0x20 ∷ 0x33 ∷ 0x2C ∷ 0x02 ∷ 0x02 ∷ 0x00 ∷ 0x01 ∷ 0x02 ∷ 0x03 ∷ 0x04 ∷ []) (Ok (record { id = Extended 0x20 0x33; family = 300; family_member = 2; software_revision = (1, 2, 3, 4) }))
     ∷ [])
 unfolding identity_of
 identity_readings = (refl, (refl, (refl, (refl, (refl, (refl, (refl, (refl, (refl, (refl, (refl, (refl, (refl, (refl, (refl, tt)))))))))))))))

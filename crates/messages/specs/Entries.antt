@@ -1,19 +1,18 @@
 -- Lent entries: tunings, note changes and bank maps as numbers of 64 bits, one place each. Every number is some entry.
-use Rattle.std.specs.Prelude.{ℕ, ◌+◌, ◌*◌, ◌/◌, ◌%◌, ◌^◌, min, ltb}
+use Rattle.std.specs.Prelude.{Option, Some, None, ℕ, ◌+◌, ◌*◌, ◌/◌, ◌%◌, ◌^◌, min, ltb}
 use Rattle.util.specs.Limits.{no_tuning}
-use Rattle.messages.specs.Types.{MaybeTuning, KeyTuning, SoundFileMap}
-use Rattle.messages.specs.declared.tuning.MaybeTuning.TheVariants.{NoTuning, Tuned}
+use Rattle.messages.specs.Types.{Tuning, KeyTuning, SoundFileMap}
 use Rattle.util.specs.Pick.{pick}
 use Rattle.messages.specs.Fields.{bit, is_set}
 
 -- semitone × 65,536 + fraction; 2^24 for no tuning
-abbrev pub tuning_entry : MaybeTuning → ℕ
-tuning_entry NoTuning = no_tuning
-tuning_entry (Tuned t) = t.semitone * 65536 + t.fraction
+abbrev pub tuning_entry : Option Tuning → ℕ
+tuning_entry None = no_tuning
+tuning_entry (Some t) = t.semitone * 65536 + t.fraction
 
 -- from 2^24 on: no tuning
-abbrev pub tuning_of : ℕ → MaybeTuning
-tuning_of n = pick (ltb n no_tuning) (Tuned (record { semitone = n / 65536; fraction = n % 65536 })) NoTuning
+abbrev pub tuning_of : ℕ → Option Tuning
+tuning_of n = pick (ltb n no_tuning) (Some (record { semitone = n / 65536; fraction = n % 65536 })) None
 
 -- key × 2^25 + tuning
 abbrev pub change_entry : KeyTuning → ℕ

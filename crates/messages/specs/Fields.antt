@@ -1,7 +1,8 @@
 -- The kinds of field that the layouts name.
-use Rattle.std.specs.Prelude.{◌≡◌, refl, Bool, true, false, ◌&&◌, List, [], ◌∷◌, ℕ, zero, suc, ◌+◌, ◌*◌, ◌≤◌, ◌^◌, leb, eqb, length, ℤ}
+use Rattle.std.specs.Prelude.{◌≡◌, refl, Bool, true, false, ◌&&◌, Option, Some, None, List, [], ◌∷◌, ℕ, zero, suc, ◌+◌, ◌*◌, ◌≤◌, ◌^◌, leb, eqb, length, get_or, ℤ}
 use Rattle.std.proofs.Common.{sym, ap, ◌∙◌, arith, lit<, lit≤, lt-ltb, le-leb, eqb-true}
-use Rattle.std.proofs.Math.Option.{Option, none}
+use Rattle.std.proofs.Math.Option as maybe
+use Rattle.std.proofs.Math.Option.{none}
 use Rattle.util.specs.Groups.{Seven, seven, largest}
 use Rattle.util.specs.Limits.{all_call, all_loops, least_format, most_format, most_maker, most_name, most_url}
 use Rattle.util.specs.Fields.{fits_u28}
@@ -9,14 +10,11 @@ use Rattle.util.specs.Signed.{biased, unbiased}
 use Rattle.util.proofs.Laws.Groups.{both_true, true_seven}
 use Rattle.util.proofs.Laws.Signed.{biased_unbiased}
 use Rattle.util.specs.Options.{unless}
-use Rattle.messages.specs.Types.{Refusal, DeviceID, MaybeTuning, TuningBank, LoopNumber, FileType}
+use Rattle.messages.specs.Types.{Refusal, DeviceID, Tuning, LoopNumber, FileType}
 use Rattle.util.specs.declared.refusal.Refusal.TheVariants.{High, Long, Value}
 use Rattle.messages.specs.declared.system_exclusive.DeviceID.TheVariants.{Device, AllCall}
-use Rattle.messages.specs.declared.tuning.MaybeTuning.TheVariants.{NoTuning, Tuned}
-use Rattle.messages.specs.declared.tuning.TuningBank.TheVariants.{NoBank, Bank}
 use Rattle.messages.specs.declared.sample_dump.LoopNumber.TheVariants.{Loop, RequestAll, DeleteAll}
 use Rattle.messages.specs.declared.file_dump.FileType.TheVariants.{MIDI, MIEX, ESEQ, TEXT, BIN, MAC, Custom}
-use Rattle.messages.specs.declared.file_dump.Letters.{Letters}
 use Rattle.util.specs.Pick.{pick}
 use Rattle.messages.specs.format.{Part, Whole, unsigned, unsigned_high, unsigned_high_below, ranged, ◌⊗◌, lit, via, refusing, such, exactly, counted, rest, all_settled, text, lookup, lookup_same}
 
@@ -111,35 +109,35 @@ device = via device_byte device_of u7 (λ v h. device_same v (eqb v all_call) re
 
 -- ---- a tuning: "semitone (u7), then a 14-bit fraction, HIGH group first. No tuning is 7F 7F 7F"; settled: "no tuning for 7F 7F 7F"
 
-abbrev pub semitone_fraction : MaybeTuning → ℕ × ℕ
-semitone_fraction NoTuning = (largest 1, largest 2)
-semitone_fraction (Tuned t) = (t.semitone, t.fraction)
+abbrev pub semitone_fraction : Option Tuning → ℕ × ℕ
+semitone_fraction None = (largest 1, largest 2)
+semitone_fraction (Some t) = (t.semitone, t.fraction)
 
 abbrev pub is_none : ℕ × ℕ → Bool
 is_none x = eqb x.0 (largest 1) && eqb x.1 (largest 2)
 
-abbrev pub tuned : ℕ × ℕ → MaybeTuning
-tuned x = Tuned (record { semitone = x.0; fraction = x.1 })
+abbrev pub tuned : ℕ × ℕ → Option Tuning
+tuned x = Some (record { semitone = x.0; fraction = x.1 })
 
-abbrev pub tuning_named : ℕ × ℕ → MaybeTuning
-tuning_named x = pick (is_none x) NoTuning (tuned x)
+abbrev pub tuning_named : ℕ × ℕ → Option Tuning
+tuning_named x = pick (is_none x) None (tuned x)
 
-pub tuning_same : (x : ℕ × ℕ) (t : Bool) → is_none x ≡ t → semitone_fraction (pick t NoTuning (tuned x)) ≡ x
+pub tuning_same : (x : ℕ × ℕ) (t : Bool) → is_none x ≡ t → semitone_fraction (pick t None (tuned x)) ≡ x
 tuning_same x true e =
     let z = both_true (eqb x.0 (largest 1)) (eqb x.1 (largest 2)) e in
     λ i. (sym (eqb-true x.0 (largest 1) z.0) i, sym (eqb-true x.1 (largest 2) z.1) i)
 tuning_same x false e = refl
 
-abbrev pub tuning : Part MaybeTuning
+abbrev pub tuning : Part (Option Tuning)
 tuning = via semitone_fraction tuning_named (u7 ⊗ unsigned_high 2) (λ x h. tuning_same x (is_none x) refl)
 
 -- "bank (00 if none)"; settled: "note change with a bank"
-abbrev pub bank_number : TuningBank → ℕ
-bank_number NoBank = 0
-bank_number (Bank n) = n
+abbrev pub bank_number : Option ℕ → ℕ
+bank_number None = 0
+bank_number (Some n) = n
 
-abbrev pub bank_or_none : Part TuningBank
-bank_or_none = via bank_number Bank u7 (λ v h. refl)
+abbrev pub bank_or_none : Part (Option ℕ)
+bank_or_none = via bank_number Some u7 (λ v h. refl)
 
 -- ---- a loop number: "(u14; "all" is 7F 7F)"; settled: "loop number 16,383 is "all" (request all in 05 02 and 05 07, delete all in 05 01 and 05 06)"
 
@@ -180,9 +178,9 @@ extended_maker = zero_then (u7 ⊗ u7)
 abbrev pub Four : Type 0
 Four = ℕ × (ℕ × (ℕ × ℕ))
 
--- four letters of the code
-abbrev pub four : Letters → Four
-four x = (x.first, (x.second, (x.third, x.fourth)))
+-- the four letters of an array of the code
+abbrev pub four : List ℕ → Four
+four l = (get_or l 0 0, (get_or l 1 0, (get_or l 2 0, get_or l 3 0)))
 
 abbrev pub bytes_of : Four → List ℕ
 bytes_of x = x.0 ∷ x.1.0 ∷ x.1.1.0 ∷ x.1.1.1 ∷ []
@@ -194,7 +192,7 @@ type_chars ESEQ = (0x45, (0x53, (0x45, 0x51)))
 type_chars TEXT = (0x54, (0x45, (0x58, 0x54)))
 type_chars BIN = (0x42, (0x49, (0x4E, 0x20)))
 type_chars MAC = (0x4D, (0x41, (0x43, 0x20)))
-type_chars (Custom a b c d) = (a, (b, (c, d)))
+type_chars (Custom l) = four l
 
 abbrev pub same_four : Four → Four → Bool
 same_four x y = eqb x.0 y.0 && (eqb x.1.0 y.1.0 && (eqb x.1.1.0 y.1.1.0 && eqb x.1.1.1 y.1.1.1))
@@ -207,7 +205,7 @@ same_four_true x y e =
     λ i. (eqb-true x.0 y.0 p.0 i, (eqb-true x.1.0 y.1.0 q.0 i, (eqb-true x.1.1.0 y.1.1.0 r.0 i, eqb-true x.1.1.1 y.1.1.1 r.1 i)))
 
 abbrev pub custom_type : Four → FileType
-custom_type x = Custom x.0 x.1.0 x.1.1.0 x.1.1.1
+custom_type x = Custom (bytes_of x)
 
 abbrev pub named_types : List FileType
 named_types = MIDI ∷ MIEX ∷ ESEQ ∷ TEXT ∷ BIN ∷ MAC ∷ []
@@ -235,7 +233,7 @@ pub all_u7_seven : (l : List ℕ) → all_settled u7 l → Seven l
 all_u7_seven [] h = tt
 all_u7_seven (x ∷ l) h = (h.0, all_u7_seven l h.1)
 
-abbrev pub high : List ℕ → Option Refusal
+abbrev pub high : List ℕ → maybe.Option Refusal
 high l = unless High (seven l)
 
 pub high_fine : (l : List ℕ) → all_settled u7 l → high l ≡ none

@@ -1,13 +1,11 @@
 -- Identity reading (01, "Beside the walk"), of the bytes l "from the head on": a row for each clause, in 01's order.
-use Rattle.std.specs.Prelude.{Bool, not, ◌&&◌, ◌||◌, List, [], ◌∷◌, ℕ, ◌+◌, eqb, ltb, length, take, drop, get_or}
+use Rattle.std.specs.Prelude.{Result, Ok, Err, Bool, not, ◌&&◌, ◌||◌, List, [], ◌∷◌, ◌++◌, ℕ, ◌+◌, eqb, ltb, length, take, drop, get_or}
 use Rattle.std.proofs.Math.Option.{Option, none, some}
 use Rattle.util.specs.Groups.{seven, value}
 use Rattle.util.specs.Pick.{pick}
 use Rattle.messages.specs.Types.{Refusal, IdentityReply, ManufacturerID}
 use Rattle.util.specs.declared.refusal.Refusal.TheVariants.{UnexpectedEnd, ByteOverflow, NotImplemented}
 use Rattle.messages.specs.declared.system_exclusive.ManufacturerID.TheVariants.{OneByte, Extended}
-use Rattle.messages.specs.declared.system_exclusive.IdentityReading.{IdentityReading}
-use Rattle.messages.specs.declared.system_exclusive.IdentityReading.TheVariants.{Reply, Refused}
 use Rattle.util.specs.Refusals.{number}
 use Rattle.messages.specs.Structures.{AfterMaker, reply}
 
@@ -15,10 +13,10 @@ use Rattle.messages.specs.Structures.{AfterMaker, reply}
 abbrev pub Row : Type 0
 Row = Bool × Refusal
 
--- the refusal of the first row that applies; the reply where none does
-abbrev pub first_of : List Row → IdentityReply → IdentityReading
-first_of [] r = Reply r
-first_of (x ∷ xs) r = pick x.0 (Refused x.1) (first_of xs r)
+-- the refusal of the first row that applies; the value where none does
+abbrev pub first_of : {A : Type 0} → List Row → A → Result A Refusal
+first_of [] a = Ok a
+first_of (x ∷ xs) a = pick x.0 (Err x.1) (first_of xs a)
 
 -- its number, 0 where none does
 abbrev pub first_number : List Row → ℕ
@@ -50,35 +48,42 @@ rows_after_maker l i =
     ∷ (not (seven (take 4 (drop i l))), ByteOverflow)
     ∷ []
 
+-- a maker's byte at i: missing 13; over 7F, 14
+abbrev pub byte_rows : List ℕ → ℕ → List Row
+byte_rows l i =
+    (ltb (length l) (i + 1), UnexpectedEnd)
+    ∷ (over_7F (get_or l i 0), ByteOverflow)
+    ∷ []
+
 -- "no maker byte 13; maker byte over 7F, 14; maker byte 00 with fewer than two bytes after it 13; either of those two over 7F, 14"
-abbrev pub rows_of_maker : List ℕ → List Row
-rows_of_maker l =
+abbrev pub maker_rows : List ℕ → List Row
+maker_rows l =
     (ltb (length l) 3, UnexpectedEnd)
     ∷ (over_7F (get_or l 2 0), ByteOverflow)
     ∷ (maker_00 l && ltb (length l) 5, UnexpectedEnd)
     ∷ (maker_00 l && (over_7F (get_or l 3 0) || over_7F (get_or l 4 0)), ByteOverflow)
-    ∷ rows_after_maker l (maker_end l)
+    ∷ []
 
 -- "Under 2 bytes 13; head not 06 02, 15"
 abbrev pub rows : List ℕ → List Row
 rows l =
     (ltb (length l) 2, UnexpectedEnd)
     ∷ (not (eqb (get_or l 0 0) 0x06 && eqb (get_or l 1 0) 0x02), NotImplemented)
-    ∷ rows_of_maker l
+    ∷ maker_rows l ++ rows_after_maker l (maker_end l)
 
 abbrev pub reply_in : List ℕ → IdentityReply
 reply_in l = reply (maker l) (numbers_from l (maker_end l))
 
 -- the reply of the bytes from the head on, or a refusal
-unfoldable pub identity_of : List ℕ → IdentityReading
+unfoldable pub identity_of : List ℕ → Result IdentityReply Refusal
 identity_of l = first_of (rows l) (reply_in l)
 
 -- 01's number: "Where nothing is refused the number is 0"
-abbrev pub identity_number : IdentityReading → ℕ
-identity_number (Reply r) = 0
-identity_number (Refused r) = number r
+abbrev pub identity_number : Result IdentityReply Refusal → ℕ
+identity_number (Ok r) = 0
+identity_number (Err r) = number r
 
 -- 01's value: "each reading the message"
-abbrev pub identity_value : IdentityReading → Option IdentityReply
-identity_value (Reply r) = some r
-identity_value (Refused r) = none
+abbrev pub identity_value : Result IdentityReply Refusal → Option IdentityReply
+identity_value (Ok r) = some r
+identity_value (Err r) = none

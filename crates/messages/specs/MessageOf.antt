@@ -1,11 +1,10 @@
 -- The message that an enum of the code is, beside the text and the entries lent with it. What a message does not use of these is as if not there.
-use Rattle.std.specs.Prelude.{List, map, ℕ}
-use Rattle.messages.specs.Types.{Head, DeviceID, SampleDumpMsg, ExtendedSampleDumpMsg, FileDumpMsg, TuningBank, GeneralMidi, SelectMap, FileReferenceMsg, UniversalNonRealTimeMsg}
+use Rattle.std.specs.Prelude.{Option, Some, None, List, map, ℕ}
+use Rattle.messages.specs.Types.{Head, DeviceID, SampleDumpMsg, ExtendedSampleDumpMsg, FileDumpMsg, GeneralMidi, SelectMap, FileReferenceMsg, UniversalNonRealTimeMsg}
 use Rattle.messages.specs.declared.head.Head.TheVariants as head
 use Rattle.messages.specs.declared.sample_dump.SampleDumpMsg.TheVariants as sample
 use Rattle.messages.specs.declared.sample_dump.ExtendedSampleDumpMsg.TheVariants as extended
 use Rattle.messages.specs.declared.file_dump.FileDumpMsg.TheVariants as file
-use Rattle.messages.specs.declared.tuning.TuningBank.TheVariants.{NoBank, Bank}
 use Rattle.messages.specs.declared.general_midi.GeneralMidi.TheVariants.{GM1, Off, GM2}
 use Rattle.messages.specs.declared.file_reference.SelectMap.TheVariants as select
 use Rattle.messages.specs.declared.file_reference.FileReferenceMsg.TheVariants as reference
@@ -60,21 +59,21 @@ fields_file (file.Request d t) text = record { requester = d; type = t; name = t
 
 -- ---- tunings that have a bank or not
 
-abbrev pub head_request : TuningBank → Head
-head_request NoBank = head.TuningBulkDumpRequest
-head_request (Bank b) = head.BankTuningBulkDumpRequest
+abbrev pub head_request : Option ℕ → Head
+head_request None = head.TuningBulkDumpRequest
+head_request (Some b) = head.BankTuningBulkDumpRequest
 
-abbrev pub fields_request : (b : TuningBank) → ℕ → Fields (head_request b)
-fields_request NoBank p = p
-fields_request (Bank b) p = record { bank = b; program = p }
+abbrev pub fields_request : (b : Option ℕ) → ℕ → Fields (head_request b)
+fields_request None p = p
+fields_request (Some b) p = record { bank = b; program = p }
 
-abbrev pub head_keys : TuningBank → Head
-head_keys NoBank = head.KeyBasedTuningDump
-head_keys (Bank b) = head.BankKeyBasedTuningDump
+abbrev pub head_keys : Option ℕ → Head
+head_keys None = head.KeyBasedTuningDump
+head_keys (Some b) = head.BankKeyBasedTuningDump
 
-abbrev pub fields_keys : (b : TuningBank) → ℕ → List ℕ → List ℕ → Fields (head_keys b)
-fields_keys NoBank p text entries = record { program = p; name = text; tunings = map tuning_of entries }
-fields_keys (Bank b) p text entries = record { bank = b; program = p; name = text; tunings = map tuning_of entries }
+abbrev pub fields_keys : (b : Option ℕ) → ℕ → List ℕ → List ℕ → Fields (head_keys b)
+fields_keys None p text entries = record { program = p; name = text; tunings = map tuning_of entries }
+fields_keys (Some b) p text entries = record { bank = b; program = p; name = text; tunings = map tuning_of entries }
 
 -- ---- General MIDI
 

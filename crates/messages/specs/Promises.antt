@@ -1,11 +1,10 @@
 -- What the definitions promise, as propositions: the theorems of proofs/ have these types.
-use Rattle.std.specs.Prelude.{◌≡◌, ◌↔◌, true, List, [], ◌∷◌, ◌++◌, ℕ, ◌+◌, ◌<◌, ◌≤◌, Float, length, get_or, take, drop}
+use Rattle.std.specs.Prelude.{◌≡◌, ◌↔◌, Ok, true, List, [], ◌∷◌, ◌++◌, ℕ, ◌+◌, ◌<◌, ◌≤◌, Float, length, get_or, take, drop}
 use Rattle.std.proofs.Math.Option.{none, some}
 use Rattle.util.specs.Groups.{Seven}
 use Rattle.rates.specs.Rate.{split_of, numbers_of}
 use Rattle.messages.specs.declared.head.Head.TheVariants as head
 use Rattle.messages.specs.Types.{Head, Kind, DeviceID, ExtendedSampleDumpMsg, ExtendedLoopType, IdentityReply}
-use Rattle.messages.specs.declared.sample_dump.HeaderAnswer.TheVariants as header
 use Rattle.messages.specs.declared.system_exclusive.UniversalNonRealTimeMsg.TheVariants.{ExtendedSampleDump}
 use Rattle.messages.specs.Layouts.{form, code, summed, reads}
 use Rattle.messages.specs.Messages.{Message, given, answer_number, refusal_number, refusal, settle, write_of, Settled, SettledFor, read_of, text, text_start}
@@ -181,4 +180,4 @@ HeaderAsSplit =
 abbrev pub HeaderAdmitted : Type 0
 HeaderAdmitted =
     (d : DeviceID) (n b : ℕ) (x : Float) (l s e : ℕ) (t : ExtendedLoopType) (c : ℕ) (m : ExtendedSampleDumpMsg) (text entries : List ℕ)
-    → header_of n b x l s e t c ≡ header.Message m → refusal (message_of d (ExtendedSampleDump m) text entries) ≡ none
+    → header_of n b x l s e t c ≡ Ok m → refusal (message_of d (ExtendedSampleDump m) text entries) ≡ none

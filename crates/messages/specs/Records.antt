@@ -1,6 +1,6 @@
 -- The fields of the heads by name, in wire order. A head whose only field is one number has no record.
-use Rattle.std.specs.Prelude.{refl, List, ℕ}
-use Rattle.messages.specs.Types.{LoopType, ExtendedLoopType, LoopNumber, DeviceID, FileType, MaybeTuning, KeyTuning, TuningBank, FileReferenceType}
+use Rattle.std.specs.Prelude.{refl, Option, List, ℕ}
+use Rattle.messages.specs.Types.{LoopType, ExtendedLoopType, LoopNumber, DeviceID, FileType, Tuning, KeyTuning, FileReferenceType}
 use Rattle.messages.specs.format.Views.{Names, names}
 use Rattle.messages.specs.Maps.{AnySelect}
 
@@ -126,9 +126,9 @@ bank_request =
 pub record KeyDump : Type 0 where
   pub program : ℕ
   pub name : List ℕ
-  pub tunings : List MaybeTuning
+  pub tunings : List (Option Tuning)
 
-abbrev pub key_dump : Names (ℕ × (List ℕ × List MaybeTuning)) KeyDump
+abbrev pub key_dump : Names (ℕ × (List ℕ × List (Option Tuning))) KeyDump
 key_dump =
     names (λ r. (r.program, (r.name, r.tunings)))
     (λ x. record { program = x.0; name = x.1.0; tunings = x.1.1 }) (λ x. refl) (λ r. refl)
@@ -138,9 +138,9 @@ pub record BankKeyDump : Type 0 where
   pub bank : ℕ
   pub program : ℕ
   pub name : List ℕ
-  pub tunings : List MaybeTuning
+  pub tunings : List (Option Tuning)
 
-abbrev pub bank_key_dump : Names (ℕ × (ℕ × (List ℕ × List MaybeTuning))) BankKeyDump
+abbrev pub bank_key_dump : Names (ℕ × (ℕ × (List ℕ × List (Option Tuning)))) BankKeyDump
 bank_key_dump =
     names (λ r. (r.bank, (r.program, (r.name, r.tunings))))
     (λ x. record { bank = x.0; program = x.1.0; name = x.1.1.0; tunings = x.1.1.1 }) (λ x. refl) (λ r. refl)
@@ -159,11 +159,11 @@ scale_dump =
 
 -- 08 07 note change
 pub record NoteChange : Type 0 where
-  pub bank : TuningBank
+  pub bank : Option ℕ
   pub program : ℕ
   pub changes : List KeyTuning
 
-abbrev pub note_change : Names (TuningBank × (ℕ × List KeyTuning)) NoteChange
+abbrev pub note_change : Names (Option ℕ × (ℕ × List KeyTuning)) NoteChange
 note_change =
     names (λ r. (r.bank, (r.program, r.changes)))
     (λ x. record { bank = x.0; program = x.1.0; changes = x.1.1 }) (λ x. refl) (λ r. refl)

@@ -1,15 +1,14 @@
 -- The fields of tunings and identity replies, and the loop types.
-use Rattle.std.specs.Prelude.{◌≡◌, refl, List, [], ◌∷◌, ℕ, ◌<◌, leb, length, get_or}
+use Rattle.std.specs.Prelude.{◌≡◌, refl, Option, Some, List, [], ◌∷◌, ℕ, ◌<◌, ℤ, pos, leb, length, get_or}
 use Rattle.std.proofs.Math.Option.{none}
 use Rattle.std.proofs.Common.{arith, lit<, le-leb}
 use Rattle.util.specs.Options.{unless}
 use Rattle.util.specs.Limits.{sample_bytes, most_changes}
 use Rattle.util.specs.Limits as limits
-use Rattle.messages.specs.Types.{LoopType, ExtendedLoopType, MaybeTuning, KeyTuning, Scale1Byte, Scale2Byte, IdentityReply, SoftwareRevision, ManufacturerID}
+use Rattle.messages.specs.Types.{LoopType, ExtendedLoopType, Tuning, KeyTuning, IdentityReply, ManufacturerID}
 use Rattle.util.specs.declared.refusal.Refusal.TheVariants.{Long}
 use Rattle.messages.specs.declared.sample_dump.LoopType.TheVariants.{Forward, BiDirectional, Off}
 use Rattle.messages.specs.declared.sample_dump.ExtendedLoopType.TheVariants as ext
-use Rattle.messages.specs.declared.tuning.MaybeTuning.TheVariants.{Tuned}
 use Rattle.messages.specs.declared.system_exclusive.ManufacturerID.TheVariants.{OneByte, Extended}
 use Rattle.messages.specs.format.{Part, Whole, ◌⊗◌, tagged, ◌named◌, refusing, exactly, counted, all_settled, end, Either, left, right, either, ◌namedW◌}
 use Rattle.messages.specs.Fields.{u7, u14, s7, s14, tuning, one_byte_maker, extended_maker}
@@ -19,8 +18,8 @@ abbrev pub samples : Part (List ℕ)
 samples = exactly u7 sample_bytes (λ i. 0) (λ i. refl)
 
 -- "128 tunings": "Entry i past the given list is i, 00, 00; entries past 128 are ignored"
-abbrev pub keys : Part (List MaybeTuning)
-keys = exactly tuning limits.keys (λ i. Tuned (record { semitone = i; fraction = 0 })) (λ i. refl)
+abbrev pub keys : Part (List (Option Tuning))
+keys = exactly tuning limits.keys (λ i. Some (record { semitone = i; fraction = 0 })) (λ i. refl)
 
 -- "each a key (u7) and a tuning"
 abbrev pub key_tuning : Part KeyTuning
@@ -41,35 +40,13 @@ changes_fine l h = rw (le-leb (length l) most_changes (omega arith))
 abbrev pub note_changes : Part (List KeyTuning)
 note_changes = refusing (λ l. unless Long (leb (length l) most_changes)) (counted key_tuning) changes_fine
 
--- twelve of one part
-module _ {A : Type 0} (p : Part A) where
-  abbrev pub Twelve : Type 0
-  Twelve = A × (A × (A × (A × (A × (A × (A × (A × (A × (A × (A × A))))))))))
-
-  abbrev pub twelve : Part Twelve
-  twelve = p ⊗ p ⊗ p ⊗ p ⊗ p ⊗ p ⊗ p ⊗ p ⊗ p ⊗ p ⊗ p ⊗ p
-
--- "twelve signed 7"
-abbrev pub scale_1 : Part Scale1Byte
-scale_1 =
-    twelve s7
-    named record {
-      to = λ s. (s.c, (s.c_sharp, (s.d, (s.d_sharp, (s.e, (s.f, (s.f_sharp, (s.g, (s.g_sharp, (s.a, (s.a_sharp, s.b)))))))))));
-      from = λ x. record { c = x.0; c_sharp = x.1.0; d = x.1.1.0; d_sharp = x.1.1.1.0; e = x.1.1.1.1.0; f = x.1.1.1.1.1.0; f_sharp = x.1.1.1.1.1.1.0; g = x.1.1.1.1.1.1.1.0; g_sharp = x.1.1.1.1.1.1.1.1.0; a = x.1.1.1.1.1.1.1.1.1.0; a_sharp = x.1.1.1.1.1.1.1.1.1.1.0; b = x.1.1.1.1.1.1.1.1.1.1.1 };
-      to_from = λ x. refl;
-      from_to = λ s. refl;
-    }
+-- "twelve signed 7": the array of the code, which has no other length
+abbrev pub scale_1 : Part (List ℤ)
+scale_1 = exactly s7 12 (λ i. pos 0) (λ i. refl)
 
 -- "or signed 14"
-abbrev pub scale_2 : Part Scale2Byte
-scale_2 =
-    twelve s14
-    named record {
-      to = λ s. (s.c, (s.c_sharp, (s.d, (s.d_sharp, (s.e, (s.f, (s.f_sharp, (s.g, (s.g_sharp, (s.a, (s.a_sharp, s.b)))))))))));
-      from = λ x. record { c = x.0; c_sharp = x.1.0; d = x.1.1.0; d_sharp = x.1.1.1.0; e = x.1.1.1.1.0; f = x.1.1.1.1.1.0; f_sharp = x.1.1.1.1.1.1.0; g = x.1.1.1.1.1.1.1.0; g_sharp = x.1.1.1.1.1.1.1.1.0; a = x.1.1.1.1.1.1.1.1.1.0; a_sharp = x.1.1.1.1.1.1.1.1.1.1.0; b = x.1.1.1.1.1.1.1.1.1.1.1 };
-      to_from = λ x. refl;
-      from_to = λ s. refl;
-    }
+abbrev pub scale_2 : Part (List ℤ)
+scale_2 = exactly s14 12 (λ i. pos 0) (λ i. refl)
 
 -- "family, member (u14 each), four u7"
 abbrev pub AfterMaker : Type 0
@@ -88,7 +65,7 @@ reply m x =
       id = m;
       family = x.0;
       family_member = x.1.0;
-      software_revision = record { first = x.1.1.0; second = x.1.1.1.0; third = x.1.1.1.1.0; fourth = x.1.1.1.1.1 };
+      software_revision = (x.1.1.0, x.1.1.1.0, x.1.1.1.1.0, x.1.1.1.1.1);
     }
 
 abbrev pub reply_of : Either (ℕ × AfterMaker) ((ℕ × ℕ) × AfterMaker) → IdentityReply
@@ -99,8 +76,8 @@ pub maker_back : (m : ManufacturerID) (x : AfterMaker) → reply_of (maker_first
 maker_back (OneByte b) x = refl
 maker_back (Extended a b) x = refl
 
-abbrev pub revision : SoftwareRevision → ℕ × (ℕ × (ℕ × ℕ))
-revision r = (r.first, (r.second, (r.third, r.fourth)))
+abbrev pub revision : ℕ × ℕ × ℕ × ℕ → ℕ × (ℕ × (ℕ × ℕ))
+revision r = (r.0, (r.1, (r.2, r.3)))
 
 -- "maker, family, member (u14 each), four u7"
 abbrev pub identity_reply : Whole IdentityReply

@@ -2,10 +2,7 @@
 pub use Rattle.messages.specs.declared.head.Head.{Head}
 pub use Rattle.util.specs.declared.refusal.Refusal.{Refusal}
 pub use Rattle.messages.specs.declared.tuning.KeyTuning.{KeyTuning}
-pub use Rattle.messages.specs.declared.tuning.MaybeTuning.{MaybeTuning}
-pub use Rattle.messages.specs.declared.tuning.Scale1Byte.{Scale1Byte}
-pub use Rattle.messages.specs.declared.tuning.Scale2Byte.{Scale2Byte}
-pub use Rattle.messages.specs.declared.tuning.TuningBank.{TuningBank}
+pub use Rattle.messages.specs.declared.tuning.Tuning.{Tuning}
 pub use Rattle.messages.specs.declared.file_dump.FileDumpMsg.{FileDumpMsg}
 pub use Rattle.messages.specs.declared.file_dump.FileType.{FileType}
 pub use Rattle.messages.specs.declared.file_reference.FileReferenceMsg.{FileReferenceMsg}
@@ -17,12 +14,10 @@ pub use Rattle.messages.specs.declared.file_reference.WAVMap.{WAVMap}
 pub use Rattle.messages.specs.declared.general_midi.GeneralMidi.{GeneralMidi}
 pub use Rattle.messages.specs.declared.sample_dump.ExtendedLoopType.{ExtendedLoopType}
 pub use Rattle.messages.specs.declared.sample_dump.ExtendedSampleDumpMsg.{ExtendedSampleDumpMsg}
-pub use Rattle.messages.specs.declared.sample_dump.HeaderAnswer.{HeaderAnswer}
 pub use Rattle.messages.specs.declared.sample_dump.LoopNumber.{LoopNumber}
 pub use Rattle.messages.specs.declared.sample_dump.LoopType.{LoopType}
 pub use Rattle.messages.specs.declared.sample_dump.SampleDumpMsg.{SampleDumpMsg}
 pub use Rattle.messages.specs.declared.system_exclusive.DeviceID.{DeviceID}
 pub use Rattle.messages.specs.declared.system_exclusive.IdentityReply.{IdentityReply}
 pub use Rattle.messages.specs.declared.system_exclusive.ManufacturerID.{ManufacturerID}
-pub use Rattle.messages.specs.declared.system_exclusive.SoftwareRevision.{SoftwareRevision}
 pub use Rattle.messages.specs.declared.system_exclusive.UniversalNonRealTimeMsg.{UniversalNonRealTimeMsg}

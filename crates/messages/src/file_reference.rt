@@ -1,23 +1,20 @@
 // File references (CA-018, CA-028). The URL is lent beside these as text, the maps of a sound file as entries.
 ghost use Rattle.std.specs.Prelude.{◌≡◌};
-ghost use Rattle.messages.specs.Fields.{four};
-ghost use Rattle.messages.specs.Maps.{reference_letters};
+ghost use Rattle.messages.specs.Maps.{reference_code};
 ghost use Rattle.messages.specs.Maps.{default_sound_file_map, default_wav_map};
 ghost use Rattle.messages.specs.Entries.{map_entry, map_of};
-ghost use Rattle.messages.specs.Fields.{bit};
 ghost use Rattle.messages.specs.MessageOf.{head_select, head_reference};
 
-use super::file_dump::{Letters, letters_of};
 use super::head::Head;
 
 // The kind of sound file open: the scope's "bank or WAV".
-#[derive(Clone, Copy)]
+#[derive(Clone, Copy, Debug, PartialEq, Eq)]
 pub enum Kind {
     Bank,
     WAV,
 }
 
-#[derive(Clone, Copy)]
+#[derive(Clone, Copy, Debug, PartialEq, Eq)]
 pub enum FileReferenceType {
     DLS,
     SF2,
@@ -25,24 +22,17 @@ pub enum FileReferenceType {
 }
 
 // The four letters of a file reference type.
-pub fn reference_letters(t: FileReferenceType) -> Letters
-    ensures { four result ≡ reference_letters t }
+pub fn reference_letters(t: FileReferenceType) -> [u8; 4]
+    ensures { result ≡ reference_code t }
 {
     match t {
-        FileReferenceType::DLS => letters_of(b'D', b'L', b'S', b' '),
-        FileReferenceType::SF2 => letters_of(b'S', b'F', b'2', b' '),
-        FileReferenceType::WAV => letters_of(b'W', b'A', b'V', b' '),
+        FileReferenceType::DLS => *b"DLS ",
+        FileReferenceType::SF2 => *b"SF2 ",
+        FileReferenceType::WAV => *b"WAV ",
     }
 }
 
-// A flag as a bit.
-fn bit(flag: bool) -> u64
-    ensures { result ≡ bit flag }
-{
-    if flag { 1 } else { 0 }
-}
-
-#[derive(Clone, Copy)]
+#[derive(Clone, Copy, Debug, PartialEq, Eq)]
 pub struct SoundFileMap {
     pub dst_bank: u16,
     pub dst_prog: u8,
@@ -62,28 +52,13 @@ impl SoundFileMap {
 
     pub const VOLUME: u8 = 0x7F;
 
-    // The map of the crate's default.
-    pub fn default() -> Self
-        ensures { result ≡ default_sound_file_map }
-    {
-        SoundFileMap {
-            dst_bank: Self::BANK,
-            dst_prog: Self::PROGRAM,
-            src_bank: Self::BANK,
-            src_prog: Self::PROGRAM,
-            src_drum: Self::DRUM,
-            dst_drum: Self::DRUM,
-            volume: Self::VOLUME,
-        }
-    }
-
-    // The map as an entry.
+    // The map as an entry. Kept as a named function, as those of KeyTuning are.
     pub fn to_entry(self) -> u64
         ensures { result ≡ map_entry self }
     {
         let target = self.dst_bank as u64 * 256 + self.dst_prog as u64;
         let source = (target * 65536 + self.src_bank as u64) * 256 + self.src_prog as u64;
-        let drums = (source * 2 + bit(self.src_drum)) * 2 + bit(self.dst_drum);
+        let drums = (source * 2 + u64::from(self.src_drum)) * 2 + u64::from(self.dst_drum);
         drums * 256 + self.volume as u64
     }
 
@@ -92,7 +67,7 @@ impl SoundFileMap {
         ensures { result ≡ map_of entry }
     {
         SoundFileMap {
-            dst_bank: util::groups::hold(entry / 4398046511104, 65535) as u16,
+            dst_bank: (entry / 4398046511104).min(65535) as u16,
             dst_prog: (entry / 17179869184 % 256) as u8,
             src_bank: (entry / 262144 % 65536) as u16,
             src_prog: (entry / 1024 % 256) as u8,
@@ -103,7 +78,24 @@ impl SoundFileMap {
     }
 }
 
-#[derive(Clone, Copy)]
+impl Default for SoundFileMap {
+    ghost is_default = { λ m. m ≡ default_sound_file_map };
+
+    // The map of the crate's default.
+    fn default() -> Self {
+        SoundFileMap {
+            dst_bank: Self::BANK,
+            dst_prog: Self::PROGRAM,
+            src_bank: Self::BANK,
+            src_prog: Self::PROGRAM,
+            src_drum: Self::DRUM,
+            dst_drum: Self::DRUM,
+            volume: Self::VOLUME,
+        }
+    }
+}
+
+#[derive(Clone, Copy, Debug, PartialEq, Eq)]
 pub struct WAVMap {
     pub dst_bank: u16,
     pub dst_prog: u8,
@@ -128,11 +120,13 @@ impl WAVMap {
     pub const FINE: i16 = 0;
 
     pub const VOLUME: u8 = 0x7F;
+}
+
+impl Default for WAVMap {
+    ghost is_default = { λ m. m ≡ default_wav_map };
 
     // The map of the crate's default.
-    pub fn default() -> Self
-        ensures { result ≡ default_wav_map }
-    {
+    fn default() -> Self {
         WAVMap {
             dst_bank: Self::BANK,
             dst_prog: Self::PROGRAM,
@@ -145,7 +139,7 @@ impl WAVMap {
     }
 }
 
-#[derive(Clone, Copy)]
+#[derive(Clone, Copy, Debug, PartialEq, Eq)]
 pub enum SelectMap {
     // entries: the maps
     SoundFile,
@@ -161,7 +155,7 @@ pub enum SelectMap {
     },
 }
 
-#[derive(Clone, Copy)]
+#[derive(Clone, Copy, Debug, PartialEq, Eq)]
 pub enum FileReferenceMsg {
     // text: the URL
     Open {

@@ -4,7 +4,7 @@ ghost use Rattle.messages.specs.MessageOf.{head_midi};
 
 use super::head::Head;
 
-#[derive(Clone, Copy)]
+#[derive(Clone, Copy, Debug, PartialEq, Eq)]
 pub enum GeneralMidi {
     GM1,
     Off,

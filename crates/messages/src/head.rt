@@ -1,6 +1,8 @@
 // The heads of the scope's table, in the order of their bytes. 0B 02 is a head for each kind of sound file.
+ghost use Rattle.std.specs.Prelude.{◌≡◌, length};
+ghost use Rattle.messages.specs.Layouts.{code, summed};
 
-#[derive(Clone, Copy)]
+#[derive(Clone, Copy, Debug, PartialEq, Eq)]
 pub enum Head {
     SampleDumpHeader,
     SampleDumpPacket,
@@ -39,4 +41,29 @@ pub enum Head {
     Cancel,
     NAK,
     ACK,
+}
+
+impl Head {
+    // How many bytes stand for the head in a frame.
+    pub fn size(self) -> usize
+        ensures { result ≡ length (code self) }
+    {
+        match self {
+            Head::SampleDumpHeader | Head::SampleDumpPacket | Head::SampleDumpRequest => 1,
+            Head::EOF | Head::Wait | Head::Cancel | Head::NAK | Head::ACK => 1,
+            _ => 2,
+        }
+    }
+
+    // Whether a checksum ends the fields of the head.
+    pub fn is_summed(self) -> bool
+        ensures { result ≡ summed self }
+    {
+        match self {
+            Head::SampleDumpPacket | Head::FileDumpPacket => true,
+            Head::KeyBasedTuningDump | Head::BankKeyBasedTuningDump => true,
+            Head::ScaleTuningDump1Byte | Head::ScaleTuningDump2Byte => true,
+            _ => false,
+        }
+    }
 }

@@ -7,39 +7,38 @@ ghost use Rattle.messages.specs.MessageOf.{head_sample, head_extended};
 ghost use Rattle.messages.specs.Header.{header_of};
 
 use super::head::Head;
-use rates::SplitAnswer;
 use util::limits::ALL_LOOPS;
 use util::refusal::Refusal;
 
-#[derive(Clone, Copy)]
+#[derive(Clone, Copy, Debug, PartialEq, Eq)]
 pub enum LoopType {
-    Forward,
-    BiDirectional,
-    Off,
+    Forward = 0,
+    BiDirectional = 1,
+    Off = 0x7F,
 }
 
-#[derive(Clone, Copy)]
+#[derive(Clone, Copy, Debug, PartialEq, Eq)]
 pub enum ExtendedLoopType {
-    Forward,
-    BiDirectional,
-    ForwardRelease,
-    BiDirectionalRelease,
-    Backward,
-    BackwardBiDirectional,
-    BackwardRelease,
-    BackwardBiDirectionalRelease,
-    BackwardOneShot,
-    OneShot,
+    Forward = 0,
+    BiDirectional = 1,
+    ForwardRelease = 2,
+    BiDirectionalRelease = 3,
+    Backward = 0x40,
+    BackwardBiDirectional = 0x41,
+    BackwardRelease = 0x42,
+    BackwardBiDirectionalRelease = 0x43,
+    BackwardOneShot = 0x7E,
+    OneShot = 0x7F,
 }
 
-#[derive(Clone, Copy)]
+#[derive(Clone, Copy, Debug, PartialEq, Eq)]
 pub enum LoopNumber {
     Loop(u16),
     RequestAll,
     DeleteAll,
 }
 
-#[derive(Clone, Copy)]
+#[derive(Clone, Copy, Debug, PartialEq, Eq)]
 pub enum SampleDumpMsg {
     Header {
         sample_num: u16,
@@ -70,7 +69,7 @@ pub enum SampleDumpMsg {
     },
 }
 
-#[derive(Clone, Copy)]
+#[derive(Clone, Copy, Debug, PartialEq, Eq)]
 pub enum ExtendedSampleDumpMsg {
     // text: the name
     SampleName {
@@ -104,36 +103,26 @@ pub enum ExtendedSampleDumpMsg {
     },
 }
 
-// The byte of a loop type.
-pub fn loop_byte(t: LoopType) -> u64
-    ensures { result ≡ loop_byte t }
-{
-    match t {
-        LoopType::Forward => 0,
-        LoopType::BiDirectional => 1,
-        LoopType::Off => 0x7F,
+impl From<LoopType> for u8 {
+    ghost from_gives = { λ t b. b ≡ loop_byte t };
+
+    // The byte of a loop type.
+    fn from(t: LoopType) -> u8 {
+        t as u8
     }
 }
 
-// The byte of an extended loop type.
-pub fn extended_loop_byte(t: ExtendedLoopType) -> u64
-    ensures { result ≡ extended_loop_byte t }
-{
-    match t {
-        ExtendedLoopType::Forward => 0,
-        ExtendedLoopType::BiDirectional => 1,
-        ExtendedLoopType::ForwardRelease => 2,
-        ExtendedLoopType::BiDirectionalRelease => 3,
-        ExtendedLoopType::Backward => 0x40,
-        ExtendedLoopType::BackwardBiDirectional => 0x41,
-        ExtendedLoopType::BackwardRelease => 0x42,
-        ExtendedLoopType::BackwardBiDirectionalRelease => 0x43,
-        ExtendedLoopType::BackwardOneShot => 0x7E,
-        ExtendedLoopType::OneShot => 0x7F,
+impl From<ExtendedLoopType> for u8 {
+    ghost from_gives = { λ t b. b ≡ extended_loop_byte t };
+
+    // The byte of an extended loop type.
+    fn from(t: ExtendedLoopType) -> u8 {
+        t as u8
     }
 }
 
 // The number of a loop; all loops are 16,383.
+// Kept as a named function: From would be no plainer, since two variants have one number.
 pub fn loop_value(i: LoopNumber) -> u64
     ensures { result ≡ loop_value i }
 {
@@ -142,13 +131,6 @@ pub fn loop_value(i: LoopNumber) -> u64
         LoopNumber::RequestAll => ALL_LOOPS as u64,
         LoopNumber::DeleteAll => ALL_LOOPS as u64,
     }
-}
-
-// An extended header; or a refusal.
-#[derive(Clone, Copy)]
-pub enum HeaderAnswer {
-    Message(ExtendedSampleDumpMsg),
-    Refused(Refusal),
 }
 
 impl SampleDumpMsg {
@@ -166,6 +148,7 @@ impl SampleDumpMsg {
     }
 
     // The packet of a number that is counted round 128; its sample bytes are lent beside it.
+    // Kept beside that of file dumps: midi-msg has a packet in each of the two enums.
     pub fn packet(num: u32) -> Self
         ensures { result ≡ Packet (num % 128) }
     {
@@ -200,24 +183,20 @@ impl ExtendedSampleDumpMsg {
         sustain_loop_end: u64,
         loop_type: ExtendedLoopType,
         num_channels: u8,
-    ) -> HeaderAnswer
+    ) -> Result<ExtendedSampleDumpMsg, Refusal>
         ensures { result ≡ header_of sample_num format sample_rate length sustain_loop_start sustain_loop_end loop_type num_channels }
     {
-        match rates::split_rate(sample_rate) {
-            SplitAnswer::Pair { whole, fraction } => HeaderAnswer::Message(
-                ExtendedSampleDumpMsg::Header {
-                    sample_num,
-                    format,
-                    sample_rate_integer: whole,
-                    sample_rate_fraction: fraction,
-                    length,
-                    sustain_loop_start,
-                    sustain_loop_end,
-                    loop_type,
-                    num_channels,
-                },
-            ),
-            SplitAnswer::Refused(refusal) => HeaderAnswer::Refused(refusal),
-        }
+        let rate = rates::split_rate(sample_rate)?;
+        Ok(ExtendedSampleDumpMsg::Header {
+            sample_num,
+            format,
+            sample_rate_integer: rate.whole,
+            sample_rate_fraction: rate.fraction,
+            length,
+            sustain_loop_start,
+            sustain_loop_end,
+            loop_type,
+            num_channels,
+        })
     }
 }

@@ -6,124 +6,71 @@ ghost use Rattle.util.specs.Channels.{how_many, lowest};
 
 use util::limits::NO_TUNING;
 
-#[derive(Clone, Copy)]
+#[derive(Clone, Copy, Debug, PartialEq, Eq)]
 pub struct Tuning {
     pub semitone: u8,
     pub fraction: u16,
 }
 
-// A tuning, or none: the crate's `Option<Tuning>`.
-#[derive(Clone, Copy)]
-pub enum MaybeTuning {
-    NoTuning,
-    Tuned(Tuning),
+// A tuning, or none, as an entry.
+pub fn tuning_entry(tuning: Option<Tuning>) -> u64
+    ensures { result ≡ tuning_entry tuning }
+{
+    match tuning {
+        None => NO_TUNING,
+        Some(t) => t.semitone as u64 * 65536 + t.fraction as u64,
+    }
 }
 
-impl MaybeTuning {
-    // The tuning as an entry.
-    pub fn to_entry(self) -> u64
-        ensures { result ≡ tuning_entry self }
-    {
-        match self {
-            MaybeTuning::NoTuning => NO_TUNING,
-            MaybeTuning::Tuned(t) => t.semitone as u64 * 65536 + t.fraction as u64,
-        }
-    }
-
-    // The tuning that an entry says.
-    pub fn from_entry(entry: u64) -> Self
-        ensures { result ≡ tuning_of entry }
-    {
-        if entry < NO_TUNING {
-            MaybeTuning::Tuned(Tuning {
-                semitone: (entry / 65536) as u8,
-                fraction: (entry % 65536) as u16,
-            })
-        } else {
-            MaybeTuning::NoTuning
-        }
+// The tuning that an entry says.
+pub fn tuning_of(entry: u64) -> Option<Tuning>
+    ensures { result ≡ tuning_of entry }
+{
+    if entry < NO_TUNING {
+        Some(Tuning {
+            semitone: (entry / 65536) as u8,
+            fraction: (entry % 65536) as u16,
+        })
+    } else {
+        None
     }
 }
 
 // A key and its tuning: an element of the crate's list of note changes.
-#[derive(Clone, Copy)]
+#[derive(Clone, Copy, Debug, PartialEq, Eq)]
 pub struct KeyTuning {
     pub key: u8,
-    pub tuning: MaybeTuning,
+    pub tuning: Option<Tuning>,
 }
 
+// Kept as named functions: From of a u64 would not say that the number is an entry.
 impl KeyTuning {
     // The note change as an entry.
     pub fn to_entry(self) -> u64
         ensures { result ≡ change_entry self }
     {
-        let tuning = self.tuning;
-        self.key as u64 * 33554432 + tuning.to_entry()
+        self.key as u64 * 33554432 + tuning_entry(self.tuning)
     }
 
     // The note change that an entry says.
     pub fn from_entry(entry: u64) -> Self
         ensures { result ≡ change_of entry }
     {
-        let key = util::groups::hold(entry / 33554432, 255) as u8;
-        let tuning = MaybeTuning::from_entry(entry % 33554432);
+        let key = (entry / 33554432).min(255) as u8;
+        let tuning = tuning_of(entry % 33554432);
         KeyTuning { key, tuning }
     }
 }
 
-// A tuning bank, or none: the crate's `Option<u8>`.
-#[derive(Clone, Copy)]
-pub enum TuningBank {
-    NoBank,
-    Bank(u8),
-}
-
 // The number of a bank; no bank is 0.
-pub fn bank_number(bank: TuningBank) -> u64
+pub fn bank_number(bank: Option<u8>) -> u64
     ensures { result ≡ bank_number bank }
 {
-    match bank {
-        TuningBank::NoBank => 0,
-        TuningBank::Bank(n) => n as u64,
-    }
-}
-
-// The adjustments of the twelve semitones, in cents: the crate's `[i8; 12]`.
-#[derive(Clone, Copy)]
-pub struct Scale1Byte {
-    pub c: i8,
-    pub c_sharp: i8,
-    pub d: i8,
-    pub d_sharp: i8,
-    pub e: i8,
-    pub f: i8,
-    pub f_sharp: i8,
-    pub g: i8,
-    pub g_sharp: i8,
-    pub a: i8,
-    pub a_sharp: i8,
-    pub b: i8,
-}
-
-// The same in 8,192nds of 100 cents: the crate's `[i16; 12]`.
-#[derive(Clone, Copy)]
-pub struct Scale2Byte {
-    pub c: i16,
-    pub c_sharp: i16,
-    pub d: i16,
-    pub d_sharp: i16,
-    pub e: i16,
-    pub f: i16,
-    pub f_sharp: i16,
-    pub g: i16,
-    pub g_sharp: i16,
-    pub a: i16,
-    pub a_sharp: i16,
-    pub b: i16,
+    bank.unwrap_or(0) as u64
 }
 
 // Sixteen channels: channel c is bit c - 1.
-#[derive(Clone, Copy)]
+#[derive(Clone, Copy, Debug, PartialEq, Eq)]
 pub struct ChannelBitMap {
     pub channels: u16,
 }
@@ -159,43 +106,44 @@ impl ChannelBitMap {
 }
 
 // entries: the tunings of keys 0 to 127; text: the name
-#[derive(Clone, Copy)]
+#[derive(Clone, Copy, Debug, PartialEq, Eq)]
 pub struct KeyBasedTuningDump {
-    pub tuning_bank_num: TuningBank,
+    pub tuning_bank_num: Option<u8>,
     pub tuning_program_num: u8,
 }
 
-// text: the name
-#[derive(Clone, Copy)]
+// text: the name; the adjustments of the twelve semitones, in cents
+#[derive(Clone, Copy, Debug, PartialEq, Eq)]
 pub struct ScaleTuningDump1Byte {
     pub tuning_bank_num: u8,
     pub tuning_program_num: u8,
-    pub tuning: Scale1Byte,
+    pub tuning: [i8; 12],
 }
 
-// text: the name
-#[derive(Clone, Copy)]
+// text: the name; the adjustments in 8,192nds of 100 cents
+// Kept as a type of its own, as ScaleTuning2Byte is: the types of this crate are those of midi-msg, by name.
+#[derive(Clone, Copy, Debug, PartialEq, Eq)]
 pub struct ScaleTuningDump2Byte {
     pub tuning_bank_num: u8,
     pub tuning_program_num: u8,
-    pub tuning: Scale2Byte,
+    pub tuning: [i16; 12],
 }
 
 // entries: the note changes
-#[derive(Clone, Copy)]
+#[derive(Clone, Copy, Debug, PartialEq, Eq)]
 pub struct TuningNoteChange {
-    pub tuning_bank_num: TuningBank,
+    pub tuning_bank_num: Option<u8>,
     pub tuning_program_num: u8,
 }
 
-#[derive(Clone, Copy)]
+#[derive(Clone, Copy, Debug, PartialEq, Eq)]
 pub struct ScaleTuning1Byte {
     pub channels: ChannelBitMap,
-    pub tuning: Scale1Byte,
+    pub tuning: [i8; 12],
 }
 
-#[derive(Clone, Copy)]
+#[derive(Clone, Copy, Debug, PartialEq, Eq)]
 pub struct ScaleTuning2Byte {
     pub channels: ChannelBitMap,
-    pub tuning: Scale2Byte,
+    pub tuning: [i16; 12],
 }

@@ -2,7 +2,7 @@
 -- Assumes nothing.
 use mathlib.Core.Path.{◌≡◌, refl, sym, ap, ◌∙◌, subst}
 use Prim.Native.Nat.{ℕ, zero, suc, ◌+◌, ◌-◌, ◌*◌, ◌/◌, ◌%◌, ◌^◌, ◌≤◌, ◌<◌}
-use native.Mathlib.Nat.{le_trans, le_of_eq, lt_of_lt_of_le, lt_of_le_of_lt, lt_of_not-le, not-le_of_lt, mul-one, mul_assoc, mul_right_comm, mul-le-mul_right, mul-lt-mul_of_pos_right, lt_of_mul-lt-mul_right, eq_of_mul-eq-mul_right, mul-div-mul_right, div-eq_of_lt, div-one, mod-lt, mod-eq_of_lt}
+use native.Mathlib.Nat.{le_trans, le_of_eq, lt_of_lt_of_le, lt_of_le_of_lt, lt_of_not-le, not-le_of_lt, mul-one, mul_assoc, mul_right_comm, mul-le-mul_right, mul-lt-mul_of_pos_right, lt_of_mul-lt-mul_right, eq_of_mul-eq-mul_right, mul-div-mul_right, div-eq_of_lt, mod-lt, mod-eq_of_lt}
 use native.Mathlib.Omega.{arith}
 use mathlib.Core.Bool.{Bool, true, false, not, cond, true≢false}
 use lib.IntN.{ℤ}
@@ -26,12 +26,6 @@ gone d s h g = div-eq_of_lt (lt_of_lt_of_le h (pow_mono g))
 
 pub all_cut : (b u : ℕ) → 64 ≤ u - b / 2 ^ 52 → 0 ≡ digits_of b u
 all_cut b u h = sym (gone (2 ^ 52 + b % 2 ^ 52) (u - b / 2 ^ 52) (digits_lt b) (le_trans (lit≤ tt) h))
-
-pub none_cut : (b u : ℕ) → u ≤ b / 2 ^ 52 → 2 ^ 52 + b % 2 ^ 52 ≡ digits_of b u
-none_cut b u h = sym (ap (λ (s : ℕ). (2 ^ 52 + b % 2 ^ 52) / 2 ^ s) (nothing u (b / 2 ^ 52) h) ∙ div-one (2 ^ 52 + b % 2 ^ 52))
-  where
-    nothing : (u e : ℕ) → u ≤ e → u - e ≡ 0
-    nothing u e h = omega arith
 
 -- ---- a value by the fields of its pattern, in units of 2 ^ -1074
 abbrev magnitude : ℕ → ℕ → ℕ

@@ -9,9 +9,9 @@ use lib.Dec.{T, ltb, ltb→lt, nltb→le, lit<}
 use lib.Pow.{pow_pos, high, low}
 use lib.Ieee.{Float, nan, inf, fin, up, down, lt, round, size, span, climb, odd, units, mul, div}
 use lib.Ieee.Fits.{down_pos}
+use Rattle.std.specs.Prelude.{Err}
 use Rattle.util.specs.declared.refusal.Refusal.TheVariants.{Value}
-use Rattle.rates.specs.declared.SplitAnswer.TheVariants.{Pair, Refused}
-use Rattle.rates.specs.Rate.{parts_of, split_of, SplitNumbers, numbers_of, total, join_of}
+use Rattle.rates.specs.Rate.{pair, parts_of, split_of, SplitNumbers, numbers_of, total, join_of}
 use Rattle.rates.specs.Cents.{hold_of, scaled_of, nearest_of, cents_of}
 use Rattle.rates.specs.Promises.{SplitParts, SplitBelowZero, SplitRefused, SplitFits, Units, Within4, JoinNear, JoinExact, JoinFourAttained, JoinSplit, JoinFirstOther, JoinTopRefused, CentsHeld, CentsNear, CentsTop, CentsNan, CentsHalf, Worked}
 use Rattle.rates.proofs.Split.{floor, rest_small, in_range, past_range, parts_value}
@@ -36,16 +36,16 @@ split_below_zero (inf false) p = absurd (true≢false (sym p))
 split_below_zero (fin true m e) p = refl
 split_below_zero (fin false m e) p = absurd (true≢false (sym p))
 
-not_3 : (w f : ℕ) → numbers_of (Pair w f) ≡ numbers_of (Refused Value) → ⊥
+not_3 : (w f : ℕ) → numbers_of (pair w f) ≡ numbers_of (Err Value) → ⊥
 not_3 w f p = zero_three (ap (λ (n : SplitNumbers). n.number) p)
   where
     zero_three : ◌≡◌ {A = ℕ} 0 3 → ⊥
     zero_three h = omega arith
 
-refused_only : (a d : ℕ) → numbers_of (parts_of a d) ≡ numbers_of (Refused Value) → 2 ^ 28 * d ≤ a
+refused_only : (a d : ℕ) → numbers_of (parts_of a d) ≡ numbers_of (Err Value) → 2 ^ 28 * d ≤ a
 refused_only a d = go (ltb a (2 ^ 28 * d)) (nltb→le a (2 ^ 28 * d))
   where
-    go : (b : Bool) → (T (not b) → 2 ^ 28 * d ≤ a) → numbers_of (cond b (Pair (a / d) (a % d * 2 ^ 28 / d)) (Refused Value)) ≡ numbers_of (Refused Value) → 2 ^ 28 * d ≤ a
+    go : (b : Bool) → (T (not b) → 2 ^ 28 * d ≤ a) → numbers_of (cond b (pair (a / d) (a % d * 2 ^ 28 / d)) (Err Value)) ≡ numbers_of (Err Value) → 2 ^ 28 * d ≤ a
     go true h p = absurd (not_3 (a / d) (a % d * 2 ^ 28 / d) p)
     go false h p = h tt
 
@@ -57,23 +57,24 @@ split_refused (inf false) = (λ p. refl, λ q. refl)
 split_refused (fin true m e) = (λ p. absurd (not_3 0 0 p), λ q. absurd (true≢false q.0))
 split_refused (fin false m e) = (λ p. (refl, refused_only (m * up e) (down e) p), λ q. ap numbers_of (sym (past_range (m * up e) (down e) q.1)))
 
-small : (w f : ℕ) → Pair 0 0 ≡ Pair w f → (w < 2 ^ 28) × (f < 2 ^ 28)
-small w f p =
-    let W : w ≡ 0 = cc in
-    let F : f ≡ 0 = cc in
-    (omega arith, omega arith)
+-- a pair has one whole part and one fraction
+pair_same : (w f u v : ℕ) → pair w f ≡ pair u v → (w ≡ u) × (f ≡ v)
+pair_same w f u v p = let n = ap numbers_of p in (ap (λ (s : SplitNumbers). s.whole) n, ap (λ (s : SplitNumbers). s.fraction) n)
 
-never : (w f : ℕ) → Refused Value ≡ Pair w f → ⊥
+small : (w f : ℕ) → pair 0 0 ≡ pair w f → (w < 2 ^ 28) × (f < 2 ^ 28)
+small w f p =
+    let e = pair_same 0 0 w f p in (omega arith, omega arith)
+
+never : (w f : ℕ) → Err Value ≡ pair w f → ⊥
 never w f p = let z : ◌≡◌ {A = ℕ} 0 1 = cc in omega arith
 
-fit_parts : (a c w f : ℕ) → 0 < c → parts_of a c ≡ Pair w f → (w < 2 ^ 28) × (f < 2 ^ 28)
+fit_parts : (a c w f : ℕ) → 0 < c → parts_of a c ≡ pair w f → (w < 2 ^ 28) × (f < 2 ^ 28)
 fit_parts a c w f C = go (ltb a (2 ^ 28 * c)) (ltb→lt a (2 ^ 28 * c))
   where
-    go : (b : Bool) → (T b → a < 2 ^ 28 * c) → cond b (Pair (a / c) (a % c * 2 ^ 28 / c)) (Refused Value) ≡ Pair w f → (w < 2 ^ 28) × (f < 2 ^ 28)
+    go : (b : Bool) → (T b → a < 2 ^ 28 * c) → cond b (pair (a / c) (a % c * 2 ^ 28 / c)) (Err Value) ≡ pair w f → (w < 2 ^ 28) × (f < 2 ^ 28)
     go true h p =
-        let W : a / c ≡ w = cc in
-        let F : a % c * 2 ^ 28 / c ≡ f = cc in
-        (subst (λ (z : ℕ). z < 2 ^ 28) W ((div-lt_iff_lt-mul C).1 (h tt)), subst (λ (z : ℕ). z < 2 ^ 28) F ((div-lt_iff_lt-mul C).1 (rest_small a c C)))
+        let e = pair_same (a / c) (a % c * 2 ^ 28 / c) w f p in
+        (subst (λ (z : ℕ). z < 2 ^ 28) e.0 ((div-lt_iff_lt-mul C).1 (h tt)), subst (λ (z : ℕ). z < 2 ^ 28) e.1 ((div-lt_iff_lt-mul C).1 (rest_small a c C)))
     go false h p = absurd (never w f p)
 
 pub split_fits : SplitFits
@@ -102,15 +103,15 @@ pub join_four_attained : JoinFourAttained
 unfolding join_of round units odd size span climb
 join_four_attained = (refl, refl)
 
-pair_at : (w f : ℕ) → w < 2 ^ 28 → f < 2 ^ 28 → parts_of (total w f) (2 ^ 28) ≡ Pair w f
+pair_at : (w f : ℕ) → w < 2 ^ 28 → f < 2 ^ 28 → parts_of (total w f) (2 ^ 28) ≡ pair w f
 pair_at w f a b =
     sym (in_range (total w f) (2 ^ 28) (under56 w f a b))
-    ∙ ap₂ Pair (high w 28 b) (ap (λ (z : ℕ). z * 2 ^ 28 / 2 ^ 28) (low w 28 b) ∙ same f)
+    ∙ ap₂ pair (high w 28 b) (ap (λ (z : ℕ). z * 2 ^ 28 / 2 ^ 28) (low w 28 b) ∙ same f)
   where
     same : (f : ℕ) → f * 2 ^ 28 / 2 ^ 28 ≡ f
     same f = omega arith
 
-back : (w f : ℕ) → w < 2 ^ 28 → f < 2 ^ 28 → total w f ≤ 2 ^ 53 → split_of (join_of w f) ≡ Pair w f
+back : (w f : ℕ) → w < 2 ^ 28 → f < 2 ^ 28 → total w f ≤ 2 ^ 53 → split_of (join_of w f) ≡ pair w f
 back w f a b h = parts_value (join_of w f) (total w f) (2 ^ 28) (pow_pos 28) (exact w f h) ∙ pair_at w f a b
 
 pub join_split : JoinSplit

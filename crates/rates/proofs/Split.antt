@@ -13,10 +13,10 @@ use lib.Ieee.Fits.{down_pos, sub-fits}
 use lib.Ieee.Exact.{HasValue}
 use lib.Ieee.Nearest.{div_same}
 use borrow.Author.Tests.{lt-ltb, le-ltb, ltb-true, ltb-false}
-use Rattle.rates.specs.declared.SplitAnswer.TheVariants.{Pair, Refused}
+use Rattle.std.specs.Prelude.{Err}
 use Rattle.util.specs.declared.refusal.Refusal.TheVariants.{Value}
 use Rattle.rates.specs.Digits.{digits_of}
-use Rattle.rates.specs.Rate.{parts_of, split_of}
+use Rattle.rates.specs.Rate.{pair, parts_of, split_of}
 use Rattle.rates.proofs.Values.{rest_value}
 use Rattle.rates.proofs.Bits.{bits_floor, value_no_nan}
 
@@ -29,11 +29,11 @@ abbrev pub step : Float
 step = fin false 1 (pos 28)
 
 -- ---- the parts of a / d
-pub in_range : (a d : ℕ) → a < 2 ^ 28 * d → Pair (a / d) (a % d * 2 ^ 28 / d) ≡ parts_of a d
-in_range a d h = sym (ap (λ (b : Bool). cond b (Pair (a / d) (a % d * 2 ^ 28 / d)) (Refused Value)) (lt-ltb a (2 ^ 28 * d) h))
+pub in_range : (a d : ℕ) → a < 2 ^ 28 * d → pair (a / d) (a % d * 2 ^ 28 / d) ≡ parts_of a d
+in_range a d h = sym (ap (λ (b : Bool). cond b (pair (a / d) (a % d * 2 ^ 28 / d)) (Err Value)) (lt-ltb a (2 ^ 28 * d) h))
 
-pub past_range : (a d : ℕ) → 2 ^ 28 * d ≤ a → Refused Value ≡ parts_of a d
-past_range a d h = sym (ap (λ (b : Bool). cond b (Pair (a / d) (a % d * 2 ^ 28 / d)) (Refused Value)) (le-ltb a (2 ^ 28 * d) h))
+pub past_range : (a d : ℕ) → 2 ^ 28 * d ≤ a → Err Value ≡ parts_of a d
+past_range a d h = sym (ap (λ (b : Bool). cond b (pair (a / d) (a % d * 2 ^ 28 / d)) (Err Value)) (le-ltb a (2 ^ 28 * d) h))
 
 -- the floor of p times a / d, by the whole part and the rest
 pub floor : (a d p : ℕ) → 0 < d → a * p / d ≡ a / d * p + a % d * p / d
@@ -58,7 +58,7 @@ pub record Split (x : Float) (w : ℕ) : Type 0 where
   pub small : w < 2 ^ 28
   pub number : T (not (is_nan (rest x w)))
   pub small2 : digits_of (to_bits binary64 (rest x w)) 1047 < 2 ^ 28
-  pub is : Pair w (digits_of (to_bits binary64 (rest x w)) 1047) ≡ split_of x
+  pub is : pair w (digits_of (to_bits binary64 (rest x w)) 1047) ≡ split_of x
 
 whole : (m : ℕ) (e : ℤ) → parts_of (m * up e) (down e) ≡ split_of (fin false m e)
 unfolding split_of
@@ -82,7 +82,7 @@ inner m e t h =
       small = W;
       number = value_no_nan y false (a % d) d v;
       small2 = subst (λ (z : ℕ). z < 2 ^ 28) (sym c) X;
-      is = ap (λ (z : ℕ). Pair w z) c ∙ in_range a d h ∙ whole m e;
+      is = ap (λ (z : ℕ). pair w z) c ∙ in_range a d h ∙ whole m e;
     }
 
 -- ---- the three ways, by the two tests
@@ -112,14 +112,14 @@ number nan p = no p
 number (inf s) p = tt
 number (fin s m e) p = tt
 
-zero_parts : (d : ℕ) → 0 < d → Pair 0 0 ≡ parts_of 0 d
+zero_parts : (d : ℕ) → 0 < d → pair 0 0 ≡ parts_of 0 d
 zero_parts d D =
-    ap (λ (y : ℕ). Pair y 0) (sym (zero-div d))
-    ∙ ap (λ (y : ℕ). Pair (0 / d) y) (sym (ap (λ (y : ℕ). y * 2 ^ 28 / d) (zero-mod d) ∙ ap (λ (y : ℕ). y / d) (zero-mul (2 ^ 28)) ∙ zero-div d))
+    ap (λ (y : ℕ). pair y 0) (sym (zero-div d))
+    ∙ ap (λ (y : ℕ). pair (0 / d) y) (sym (ap (λ (y : ℕ). y * 2 ^ 28 / d) (zero-mod d) ∙ ap (λ (y : ℕ). y / d) (zero-mul (2 ^ 28)) ∙ zero-div d))
     ∙ in_range 0 d (mul-pos (pow_pos 28) D)
 
 -- not above 0
-pub none : (x : Float) → lt x step ≡ true → lt nought x ≡ false → Pair 0 0 ≡ split_of x
+pub none : (x : Float) → lt x step ≡ true → lt nought x ≡ false → pair 0 0 ≡ split_of x
 unfolding lt split_of
 none nan p q = no p
 none (inf true) p q = refl
@@ -133,7 +133,7 @@ none (fin false m e) p q =
     nothing a d h = omega arith
 
 -- not below 2 ^ 28
-pub refused : (x : Float) → lt x step ≡ false → Refused Value ≡ split_of x
+pub refused : (x : Float) → lt x step ≡ false → Err Value ≡ split_of x
 unfolding lt split_of
 refused nan p = refl
 refused (inf true) p = absurd (true≢false p)
@@ -178,7 +178,7 @@ parts_same a d b c D C e = go (ltb b (2 ^ 28 * c)) (ltb→lt b (2 ^ 28 * c)) (nl
     f = div_same (a % d * 2 ^ 28) d (b % c * 2 ^ 28) c D C (mul_right_comm (a % d) (2 ^ 28) c ∙ ap (λ (z : ℕ). z * 2 ^ 28) r ∙ mul_right_comm (b % c) d (2 ^ 28))
 
     go : (t : Bool) → (T t → b < 2 ^ 28 * c) → (T (not t) → 2 ^ 28 * c ≤ b) → parts_of a d ≡ parts_of b c
-    go true p q = sym (in_range a d (below_too a d b c C e D (p tt))) ∙ ap₂ Pair w f ∙ in_range b c (p tt)
+    go true p q = sym (in_range a d (below_too a d b c C e D (p tt))) ∙ ap₂ pair w f ∙ in_range b c (p tt)
     go false p q = sym (past_range a d (not_below a d b c C e (q tt))) ∙ past_range b c (q tt)
 
 pub parts_value : (x : Float) (a c : ℕ) → 0 < c → HasValue x false a c → split_of x ≡ parts_of a c

@@ -1,13 +1,12 @@
 -- What 01 promises of rates and cents, as propositions: the theorems of proofs/Promises.antt have these types.
-use Rattle.std.specs.Prelude.{◌≡◌, ◌↔◌, true, false, [], ◌∷◌, ◌++◌, ℕ, ◌+◌, ◌*◌, ◌/◌, ◌%◌, ◌^◌, ◌≤◌, ◌<◌, negsuc, Float}
+use Rattle.std.specs.Prelude.{◌≡◌, ◌↔◌, true, false, [], ◌∷◌, ◌++◌, ℕ, ◌+◌, ◌*◌, ◌/◌, ◌%◌, ◌^◌, ◌≤◌, ◌<◌, negsuc, Float, Err}
 use Rattle.std.specs.Float.{nan, inf, fin}
 use Rattle.std.specs.Float.Ieee.{up, down}
 use Rattle.std.specs.Float.Ieee.Exact.{HasValue}
 use Rattle.std.specs.Float.Ieee.Positive.{num, den}
 use Rattle.util.specs.Groups.{groups}
 use Rattle.util.specs.declared.refusal.Refusal.TheVariants.{Value}
-use Rattle.rates.specs.declared.SplitAnswer.TheVariants.{Pair, Refused}
-use Rattle.rates.specs.Rate.{numbers_of, split_of, total, join_of}
+use Rattle.rates.specs.Rate.{pair, numbers_of, split_of, total, join_of}
 use Rattle.rates.specs.Cents.{hold_of, scaled_of, cents_of}
 
 -- ---- a rate, split
@@ -45,7 +44,7 @@ SplitRefused = (x : Float) → (numbers_of (split_of x) ≡ record { number = 3;
 
 -- both numbers of a pair are below 2^28
 abbrev pub SplitFits : Type 0
-SplitFits = (x : Float) (w f : ℕ) → split_of x ≡ Pair w f → (w < 2 ^ 28) × (f < 2 ^ 28)
+SplitFits = (x : Float) (w f : ℕ) → split_of x ≡ pair w f → (w < 2 ^ 28) × (f < 2 ^ 28)
 
 -- ---- a pair, joined
 
@@ -74,16 +73,16 @@ JoinFourAttained = Units (join_of 134217728 4) (total 134217728 0)
 
 -- split of join is the pair below 2^25
 abbrev pub JoinSplit : Type 0
-JoinSplit = (w f : ℕ) → w < 2 ^ 25 → f < 2 ^ 28 → split_of (join_of w f) ≡ Pair w f
+JoinSplit = (w f : ℕ) → w < 2 ^ 25 → f < 2 ^ 28 → split_of (join_of w f) ≡ pair w f
 
 -- the smallest pair that is not the split of its join is 33,554,432, 1; that split is 33,554,432, 0
 pub record JoinFirstOther : Type 0 where
-  pub smaller : (w f : ℕ) → f < 2 ^ 28 → total w f < total 33554432 1 → split_of (join_of w f) ≡ Pair w f
-  pub other : split_of (join_of 33554432 1) ≡ Pair 33554432 0
+  pub smaller : (w f : ℕ) → f < 2 ^ 28 → total w f < total 33554432 1 → split_of (join_of w f) ≡ pair w f
+  pub other : split_of (join_of 33554432 1) ≡ pair 33554432 0
 
 -- the join of 268,435,455, 268,435,452 is 2^28, which the split refuses
 abbrev pub JoinTopRefused : Type 0
-JoinTopRefused = split_of (join_of 268435455 268435452) ≡ Refused Value
+JoinTopRefused = split_of (join_of 268435455 268435452) ≡ Err Value
 
 -- ---- cents
 
@@ -122,5 +121,5 @@ pub record CentsHalf : Type 0 where
 
 -- frame 10: "Rate 44,100.5", which is 88,201 halves: "44 58 02 00 00 00 00 40"
 pub record Worked : Type 0 where
-  pub split : split_of (fin false 88201 (negsuc 0)) ≡ Pair 44100 134217728
+  pub split : split_of (fin false 88201 (negsuc 0)) ≡ pair 44100 134217728
   pub bytes : groups 4 44100 ++ groups 4 134217728 ≡ 0x44 ∷ 0x58 ∷ 0x02 ∷ 0x00 ∷ 0x00 ∷ 0x00 ∷ 0x00 ∷ 0x40 ∷ []

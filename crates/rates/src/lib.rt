@@ -9,11 +9,11 @@ ghost use Rattle.rates.specs.Cents.{hold_of, scaled_of, cents_of};
 
 use util::refusal::Refusal;
 
-// A rate as the extended header has it, the whole part and the rest in 2^28ths; or a refusal.
-#[derive(Clone, Copy)]
-pub enum SplitAnswer {
-    Pair { whole: u32, fraction: u32 },
-    Refused(Refusal),
+// A rate as the extended header has it: the whole part, and the rest in 2^28ths.
+#[derive(Clone, Copy, Debug, PartialEq, Eq)]
+pub struct RatePair {
+    pub whole: u32,
+    pub fraction: u32,
 }
 
 // The place of whole numbers, 2^0.
@@ -51,7 +51,7 @@ fn nearest(bits: u64) -> u64
 }
 
 // A rate's whole part and the floor of the rest in 2^28ths. Below zero counts as 0; NaN, and 2^28 and up, is refused.
-pub fn split_rate(rate: f64) -> SplitAnswer
+pub fn split_rate(rate: f64) -> Result<RatePair, Refusal>
     ensures { result ≡ split_of rate }
 {
     if rate < 268435456.0 {
@@ -59,18 +59,18 @@ pub fn split_rate(rate: f64) -> SplitAnswer
             let whole: u64 = digits_above(f64::to_bits(rate), WHOLES);
             let rest: f64 = rate - (whole as f64);
             let fraction: u64 = digits_above(f64::to_bits(rest), PARTS);
-            SplitAnswer::Pair {
+            Ok(RatePair {
                 whole: whole as u32,
                 fraction: fraction as u32,
-            }
+            })
         } else {
-            SplitAnswer::Pair {
+            Ok(RatePair {
                 whole: 0,
                 fraction: 0,
-            }
+            })
         }
     } else {
-        SplitAnswer::Refused(Refusal::Value)
+        Err(Refusal::Value)
     }
 }
 

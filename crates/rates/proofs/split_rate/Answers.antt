@@ -5,8 +5,8 @@ use Prim.Native.Nat.{ℕ, ◌^◌, ◌<◌}
 use native.Mathlib.Nat.{le_of_lt, lt_of_lt_of_le}
 use lib.Dec.{T, le→leb, lit≤}
 use lib.Ieee.{binary64, of_bits, to_bits, in_float}
+use Rattle.rates.specs.Rate.{pair}
 use Rattle.rates.specs.Digits.{digits_of}
-use Rattle.rates.specs.declared.SplitAnswer.TheVariants.{Pair}
 use Rattle.rates.proofs.Split.{rest, Split, split, number, none, refused}
 use Rattle.rates.proofs.split_rate.Goals as goal
 use Rattle.rates.proofs.split_rate.Goals.{After-digits_above-whole}
@@ -32,7 +32,7 @@ returns-then-rate-2 c =
     let x = c.args.rate in
     let w = c.digits_above-whole.result in
     let e : c.digits_above-fraction.result ≡ digits_of (to_bits binary64 (rest x w)) 1047 = c.digits_above-fraction.ensures in
-    ap (λ (z : ℕ). Pair w z) e ∙ (known (goal.at.returns-then-rate-2 c).After-digits_above-whole).is
+    ap (λ (z : ℕ). pair w z) e ∙ (known (goal.at.returns-then-rate-2 c).After-digits_above-whole).is
 
 pub float_to_bits-rate : goal.float_to_bits-rate
 unfolding of_bits
