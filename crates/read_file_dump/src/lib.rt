@@ -8,119 +8,76 @@ ghost use Rattle.std.specs.Prelude.{◌≡◌, ◌≤◌, length};
 ghost use Rattle.util.specs.Groups.{Seven};
 ghost use Rattle.util.specs.Splice.{overwritten};
 ghost use Rattle.messages.specs.declared.head.Head.TheVariants as head;
-ghost use Rattle.messages.specs.declared.file_dump.FileDumpMsg.TheVariants as file;
-ghost use Rattle.messages.specs.declared.system_exclusive.UniversalNonRealTimeMsg.TheVariants as msg;
 ghost use Rattle.read_places.specs.Places.{data_at};
 ghost use Rattle.read_places.specs.Found.{Reads};
-ghost use Rattle.read_places.specs.declared.Found.TheVariants as found;
 
-use messages::file_dump::{FileDumpMsg, FileType};
+use messages::file_dump::FileDumpMsg;
 use messages::system_exclusive::{DeviceID, UniversalNonRealTimeMsg};
 use read_places::Found;
+use read_places::fields::Fields;
 use util::limits::{MOST_DATA, MOST_NAME};
 
 // A file header: sender device, type, length, and a name of at most 1,024 bytes.
-pub fn header(f: &[u8]) -> Found
-    requires { Seven f.now }
+pub fn header(f: &Fields) -> Option<Found>
     ensures { Reads head.FileDumpHeader result f.now }
 {
-    if f.len() < 9 {
-        return Found::Nothing;
+    let size = f.len();
+    if size < 9 || 9 + MOST_NAME < size {
+        return None;
     }
-    let n = f.len() - 9;
-    if MOST_NAME < n {
-        return Found::Nothing;
-    }
-    let sender_device = messages::system_exclusive::device_of(util::groups::u7_at(f, 0));
-    let file_type = fields::type_at(f);
-    let length = util::groups::u28_at(f, 5);
-    header_of(sender_device, file_type, length, n)
-}
-
-// The answer for a file header whose name has n bytes.
-fn header_of(sender_device: DeviceID, file_type: FileType, length: u32, n: usize) -> Found
-    ensures { result ≡ found.Is (msg.FileDump (file.Header sender_device file_type «length»)) 9 n 0 0 }
-{
-    Found::Is {
-        m: UniversalNonRealTimeMsg::FileDump(FileDumpMsg::Header {
-            sender_device,
-            file_type,
-            length,
-        }),
+    let header = FileDumpMsg::Header {
+        sender_device: DeviceID::from(f.u7_at(0)),
+        file_type: fields::type_at(f),
+        length: f.u28_at(5),
+    };
+    Some(Found {
         from: 9,
-        len: n,
-        at: 0,
-        count: 0,
-    }
+        len: size - 9,
+        ..Found::numbers(UniversalNonRealTimeMsg::FileDump(header))
+    })
 }
 
 // A file request: device, type, and a name of at most 1,024 bytes.
-pub fn request(f: &[u8]) -> Found
-    requires { Seven f.now }
+pub fn request(f: &Fields) -> Option<Found>
     ensures { Reads head.FileDumpRequest result f.now }
 {
-    if f.len() < 5 {
-        return Found::Nothing;
+    let size = f.len();
+    if size < 5 || 5 + MOST_NAME < size {
+        return None;
     }
-    let n = f.len() - 5;
-    if MOST_NAME < n {
-        return Found::Nothing;
-    }
-    let requester_device = messages::system_exclusive::device_of(util::groups::u7_at(f, 0));
-    let file_type = fields::type_at(f);
-    request_of(requester_device, file_type, n)
-}
-
-// The answer for a file request whose name has n bytes.
-fn request_of(requester_device: DeviceID, file_type: FileType, n: usize) -> Found
-    ensures { result ≡ found.Is (msg.FileDump (file.Request requester_device file_type)) 5 n 0 0 }
-{
-    Found::Is {
-        m: UniversalNonRealTimeMsg::FileDump(FileDumpMsg::Request {
-            requester_device,
-            file_type,
-        }),
+    let request = FileDumpMsg::Request {
+        requester_device: DeviceID::from(f.u7_at(0)),
+        file_type: fields::type_at(f),
+    };
+    Some(Found {
         from: 5,
-        len: n,
-        at: 0,
-        count: 0,
-    }
+        len: size - 5,
+        ..Found::numbers(UniversalNonRealTimeMsg::FileDump(request))
+    })
 }
 
 // A file packet: count, the count byte, and packed data of at most 111 bytes.
-pub fn packet(f: &[u8]) -> Found
-    requires { Seven f.now }
+pub fn packet(f: &Fields) -> Option<Found>
     ensures { Reads head.FileDumpPacket result f.now }
 {
-    if f.len() < 2 {
-        return Found::Nothing;
+    let size = f.len();
+    if size < 2 {
+        return None;
     }
-    let n = packed::data_size(f.len() - 2);
-    if MOST_DATA < n {
-        return Found::Nothing;
+    let count = packed::data_size(size - 2);
+    let count_byte = f.at(1) as usize;
+    let none_over = packed::is_none_over(&f.bytes[2..]);
+    if MOST_DATA < count || count_byte != count + count / 7 || !none_over {
+        return None;
     }
-    let c = read_places::wide(util::groups::at(f, 1));
-    if c != n + n / 7 {
-        return Found::Nothing;
-    }
-    if packed::is_none_over(&f[2..]) {
-        packet_of(util::groups::u7_at(f, 0), n)
-    } else {
-        Found::Nothing
-    }
-}
-
-// The answer for a file packet of n data bytes.
-fn packet_of(running_count: u8, n: usize) -> Found
-    ensures { result ≡ found.Is (msg.FileDump (file.Packet running_count)) 0 0 2 n }
-{
-    Found::Is {
-        m: UniversalNonRealTimeMsg::FileDump(FileDumpMsg::Packet { running_count }),
-        from: 0,
-        len: 0,
+    let packet = FileDumpMsg::Packet {
+        running_count: f.u7_at(0),
+    };
+    Some(Found {
         at: 2,
-        count: n,
-    }
+        count,
+        ..Found::numbers(UniversalNonRealTimeMsg::FileDump(packet))
+    })
 }
 
 // Writes the data of the packed bytes from a place on.
@@ -128,13 +85,10 @@ pub fn put_data(out: &mut [u8], f: &[u8], at: usize)
     requires { Seven f.now × (at ≤ length f.now) × (length (data_at f.now at) ≤ length out.old) }
     ensures { out.new ≡ overwritten (data_at f.now at) out.old }
 {
-    let mut o = 0;
-    let mut i = at;
-    while 8 <= f.len() - i {
-        let e = i + 8;
-        packed::put_group(&mut out[o..], &f[i..e]);
-        o += 7;
-        i = e;
+    let groups = (f.len() - at) / 8;
+    for n in 0..groups {
+        let i = at + 8 * n;
+        packed::put_group(&mut out[7 * n..], &f[i..i + 8]);
     }
-    packed::put_rest(&mut out[o..], &f[i..]);
+    packed::put_rest(&mut out[7 * groups..], &f[at + 8 * groups..]);
 }

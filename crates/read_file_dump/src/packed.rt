@@ -1,4 +1,5 @@
 // Packed data: the number of data bytes, what is left over, and the data bytes.
+// Kept as slices with a `requires`: these functions take parts of the packed bytes, and a struct of fields would have to be made for each part.
 ghost use Rattle.std.specs.Prelude.{◌≡◌, ◌+◌, ◌-◌, ◌/◌, ◌%◌, ◌^◌, ◌≤◌, ◌<◌, length};
 ghost use Rattle.util.specs.Groups.{Seven};
 ghost use Rattle.util.specs.Splice.{overwritten};
@@ -6,20 +7,9 @@ ghost use Rattle.read_places.specs.Places.{next_k, next_tops, data_byte, data_fr
 
 // How many data bytes n packed bytes hold.
 pub fn data_size(n: usize) -> usize
-    requires { n < 2 ^ 63 }
     ensures { (result ≡ n - (n + 7) / 8) × (result ≤ n) }
 {
-    n - (n + 7) / 8
-}
-
-const POWERS: [u8; 7] = [1, 2, 4, 8, 16, 32, 64];
-
-// Two to the power of k.
-fn power(k: usize) -> u8
-    requires { k ≤ 6 }
-    ensures { result ≡ 2 ^ k }
-{
-    POWERS[k]
+    n - n.div_ceil(8)
 }
 
 // The lowest k bits of t.
@@ -27,8 +17,7 @@ fn low_bits(t: u8, k: usize) -> u8
     requires { k ≤ 6 }
     ensures { result ≡ t % 2 ^ k }
 {
-    let p = power(k);
-    t - (t >> k) * p
+    t % (1 << k)
 }
 
 // Whether packed bytes leave no bit over and no byte of top bits alone: the last group tells.
@@ -36,16 +25,11 @@ pub fn is_none_over(s: &[u8]) -> bool
     requires { Seven s.now }
     ensures { result ≡ none_over 0 0 s.now }
 {
-    let n = s.len() % 8;
-    if n == 0 {
-        return true;
+    match s.len() % 8 {
+        0 => true,
+        1 => false,
+        n => low_bits(s[s.len() - n], 8 - n) == 0,
     }
-    if n == 1 {
-        return false;
-    }
-    let i = s.len() - n;
-    let t = s[i];
-    low_bits(t, 8 - n) == 0
 }
 
 // Writes the seven data bytes of a whole group.
@@ -100,13 +84,9 @@ pub fn put_rest(out: &mut [u8], s: &[u8])
     let mut at = 0;
     let mut k = 0;
     let mut t: u8 = 0;
-    let mut i = 0;
-    while i < s.len() {
-        let b = s[i];
-        let w = put_data_byte(&mut out[at..], k, t, b);
-        at += w;
-        t = next_tops(k, t, b);
+    for b in s {
+        at += put_data_byte(&mut out[at..], k, t, *b);
+        t = next_tops(k, t, *b);
         k = next_k(k);
-        i += 1;
     }
 }

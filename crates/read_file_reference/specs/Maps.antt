@@ -1,12 +1,11 @@
 -- The maps of a file reference, by place.
-use Rattle.std.specs.Prelude.{Bool, true, ◌&&◌, List, ℕ, zero, suc, ◌+◌, leb, get_or}
+use Rattle.std.specs.Prelude.{Bool, true, ◌&&◌, List, ℕ, zero, suc, ◌+◌, leb, get_or, Option, Some, None}
 use Rattle.util.specs.Signed.{unbiased}
 use Rattle.messages.specs.declared.file_reference.WAVMap.{WAVMap}
 use Rattle.messages.specs.format.Core.{Got, bad, got}
 use Rattle.messages.specs.Maps.{BankOffset}
 use Rattle.read_places.specs.Places.{value_at}
-use Rattle.read_file_reference.specs.declared.maps.OffsetFound.{OffsetFound}
-use Rattle.read_file_reference.specs.declared.maps.OffsetFound.TheVariants.{Is, Nothing}
+use Rattle.read_file_reference.specs.declared.maps.Offset.{Offset}
 
 -- the WAV map whose nine bytes stand at i
 abbrev pub wav_at : List ℕ → ℕ → WAVMap
@@ -22,9 +21,9 @@ wav_at f i =
     }
 
 -- an offset that was found, and the bytes r after it
-abbrev pub offset_got : OffsetFound → List ℕ → Got BankOffset
-offset_got (Is o d) r = got (record { bank_offset = o; drum = d }) r
-offset_got Nothing r = bad
+abbrev pub offset_got : Option Offset → List ℕ → Got BankOffset
+offset_got (Some o) r = got (record { bank_offset = o.bank_offset; drum = o.src_drum }) r
+offset_got None r = bad
 
 -- the flags of n bank maps from i on are at most 3
 abbrev pub flags_fit : List ℕ → ℕ → ℕ → Bool

@@ -1,6 +1,6 @@
 -- What a reader of fields has found is what the layout reads of them, whatever the device.
-use Rattle.std.specs.Prelude.{◌≡◌, Bool, true, false, List, [], ℕ, ◌+◌, ◌≤◌, eqb, length, take, drop}
-use Rattle.std.proofs.Math.Option.{Option, none, some}
+use Rattle.std.specs.Prelude.{◌≡◌, Bool, true, false, List, [], ℕ, ◌+◌, ◌≤◌, eqb, length, take, drop, Option, Some, None}
+use Rattle.std.proofs.Math.Option.{Option as Maybe, none, some}
 use Rattle.util.specs.Limits.{most_places}
 use Rattle.util.specs.Pick.{pick}
 use Rattle.util.specs.declared.refusal.Refusal.TheVariants as R
@@ -18,7 +18,6 @@ use Rattle.messages.specs.Layouts.{form, text_at}
 use Rattle.messages.specs.Messages.{Message, Answer, refused, given, plain_answer}
 use Rattle.messages.specs.MessageOf.{message_of}
 use Rattle.read_places.specs.declared.Found.{Found}
-use Rattle.read_places.specs.declared.Found.TheVariants.{Is, Nothing}
 use Rattle.read_places.specs.Places.{tuning_entries, change_entries, map_entries, data_at}
 
 -- ---- what goes to lent space, of the bytes f of the fields: the list that starts at i and takes n places
@@ -112,28 +111,33 @@ text_from (msg.NAK n) part dat = part
 text_from (msg.ACK n) part dat = part
 
 -- the message that the numbers and the bytes of the fields say
-abbrev pub found_of : DeviceID → Found → List ℕ → Answer Message
-found_of d (Is m from len i n) f = given (message_of d m (text_from m (take len (drop from f)) (data_of m f i)) (entries_of m f i n))
-found_of d Nothing f = refused R.Field
+abbrev pub found_of : DeviceID → Option Found → List ℕ → Answer Message
+found_of d (Some r) f = given (message_of d r.m (text_from r.m (take r.len (drop r.from f)) (data_of r.m f r.at)) (entries_of r.m f r.at r.count))
+found_of d None f = refused R.Field
 
 -- the text and the list lie in the fields, and the list takes n places, at most 128
-abbrev pub within : Found → List ℕ → Type 0
-within (Is m from len i n) f =
-    (from + len ≤ length f) × (i ≤ length f) × (n ≤ most_places) × (length (data_of m f i) + length (entries_of m f i n) ≡ n)
-within Nothing f = Unit {0}
+abbrev pub within : Option Found → List ℕ → Type 0
+within (Some r) f =
+    (r.from + r.len ≤ length f) × (r.at ≤ length f) × (r.count ≤ most_places)
+    × (length (data_of r.m f r.at) + length (entries_of r.m f r.at r.count) ≡ r.count)
+within None f = Unit {0}
 
 -- the text starts where the layout has it; where the layout has none, at 0 and with no bytes
-abbrev pub starts : Head → Found → Type 0
-starts h (Is m from len i n) = (from ≡ text_at h) × (pick (eqb (text_at h) 0) len 0 ≡ 0)
-starts h Nothing = Unit {0}
+abbrev pub starts : Head → Option Found → Type 0
+starts h (Some r) = (r.from ≡ text_at h) × (pick (eqb (text_at h) 0) r.len 0 ≡ 0)
+starts h None = Unit {0}
+
+-- a message, the part of the fields that is its text, and where the list starts, with the places that it takes
+abbrev pub found : UniversalNonRealTimeMsg → ℕ → ℕ → ℕ → ℕ → Found
+found m from len i n = record { m = m; from = from; len = len; at = i; count = n }
 
 -- what was found of the fields f under a head is what the layout reads
-pub record Reads (h : Head) (r : Found) (f : List ℕ) : Type 0 where
+pub record Reads (h : Head) (r : Option Found) (f : List ℕ) : Type 0 where
   pub says : (d : DeviceID) → found_of d r f ≡ plain_answer d h ((form h).read f)
   pub part : within r f
   pub start : starts h r
 
 -- whether a layout reads fields
-abbrev pub is_read : {A : Type 0} → Option A → Bool
+abbrev pub is_read : {A : Type 0} → Maybe A → Bool
 is_read none = false
 is_read (some a) = true

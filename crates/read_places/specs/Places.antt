@@ -1,8 +1,8 @@
 -- Lists of fields by place: the tuning, the note change and the bank map at a place, so many entries from a place on, and packed data.
-use Rattle.std.specs.Prelude.{Bool, false, List, [], ◌∷◌, ◌++◌, ℕ, zero, suc, ◌+◌, ◌*◌, ◌/◌, ◌%◌, ◌^◌, eqb, take, drop}
+use Rattle.std.specs.Prelude.{Bool, false, List, [], ◌∷◌, ◌++◌, ℕ, zero, suc, ◌+◌, ◌*◌, ◌/◌, ◌%◌, ◌^◌, eqb, take, drop, Option}
 use Rattle.util.specs.Groups.{value, value_high}
 use Rattle.util.specs.Pick.{pick}
-use Rattle.messages.specs.declared.tuning.MaybeTuning.{MaybeTuning}
+use Rattle.messages.specs.declared.tuning.Tuning.{Tuning}
 use Rattle.messages.specs.declared.tuning.KeyTuning.{KeyTuning}
 use Rattle.messages.specs.declared.file_reference.SoundFileMap.{SoundFileMap}
 use Rattle.messages.specs.Fields.{tuning_named, bits_of}
@@ -13,7 +13,7 @@ abbrev pub value_at : ℕ → List ℕ → ℕ → ℕ
 value_at k f i = value (take k (drop i f))
 
 -- the tuning whose three bytes stand at i
-abbrev pub tuning_at : List ℕ → ℕ → MaybeTuning
+abbrev pub tuning_at : List ℕ → ℕ → Option Tuning
 tuning_at f i = tuning_named (value_at 1 f i, value_high (take 2 (drop (i + 1) f)))
 
 -- the note change whose four bytes stand at i

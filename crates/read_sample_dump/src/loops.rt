@@ -1,52 +1,39 @@
 // Loop types by their byte, and loop numbers.
 ghost use Rattle.std.specs.Prelude.{◌≡◌};
-ghost use Rattle.read_sample_dump.specs.Loops.{Names, NamesExtended, loop_number_of};
+ghost use Rattle.messages.specs.Structures.{loop_code, extended_loop_code};
+ghost use Rattle.read_sample_dump.specs.Loops.{Names, loop_number_of};
 
 use messages::sample_dump::{ExtendedLoopType, LoopNumber, LoopType};
 use util::limits::ALL_LOOPS;
 
-// The loop type that a byte names, or nothing.
-#[derive(Clone, Copy)]
-pub enum LoopTypeNamed {
-    Is(LoopType),
-    Nothing,
-}
-
-// The extended loop type that a byte names, or nothing.
-#[derive(Clone, Copy)]
-pub enum ExtendedLoopTypeNamed {
-    Is(ExtendedLoopType),
-    Nothing,
-}
-
 // The loop type of byte b.
-pub fn loop_type(b: u8) -> LoopTypeNamed
-    ensures { Names b result }
+pub fn loop_type(b: u8) -> Option<LoopType>
+    ensures { Names loop_code b result }
 {
     match b {
-        0 => LoopTypeNamed::Is(LoopType::Forward),
-        1 => LoopTypeNamed::Is(LoopType::BiDirectional),
-        0x7F => LoopTypeNamed::Is(LoopType::Off),
-        _ => LoopTypeNamed::Nothing,
+        0 => Some(LoopType::Forward),
+        1 => Some(LoopType::BiDirectional),
+        0x7F => Some(LoopType::Off),
+        _ => None,
     }
 }
 
 // The extended loop type of byte b.
-pub fn extended_loop_type(b: u8) -> ExtendedLoopTypeNamed
-    ensures { NamesExtended b result }
+pub fn extended_loop_type(b: u8) -> Option<ExtendedLoopType>
+    ensures { Names extended_loop_code b result }
 {
     match b {
-        0 => ExtendedLoopTypeNamed::Is(ExtendedLoopType::Forward),
-        1 => ExtendedLoopTypeNamed::Is(ExtendedLoopType::BiDirectional),
-        2 => ExtendedLoopTypeNamed::Is(ExtendedLoopType::ForwardRelease),
-        3 => ExtendedLoopTypeNamed::Is(ExtendedLoopType::BiDirectionalRelease),
-        0x40 => ExtendedLoopTypeNamed::Is(ExtendedLoopType::Backward),
-        0x41 => ExtendedLoopTypeNamed::Is(ExtendedLoopType::BackwardBiDirectional),
-        0x42 => ExtendedLoopTypeNamed::Is(ExtendedLoopType::BackwardRelease),
-        0x43 => ExtendedLoopTypeNamed::Is(ExtendedLoopType::BackwardBiDirectionalRelease),
-        0x7E => ExtendedLoopTypeNamed::Is(ExtendedLoopType::BackwardOneShot),
-        0x7F => ExtendedLoopTypeNamed::Is(ExtendedLoopType::OneShot),
-        _ => ExtendedLoopTypeNamed::Nothing,
+        0 => Some(ExtendedLoopType::Forward),
+        1 => Some(ExtendedLoopType::BiDirectional),
+        2 => Some(ExtendedLoopType::ForwardRelease),
+        3 => Some(ExtendedLoopType::BiDirectionalRelease),
+        0x40 => Some(ExtendedLoopType::Backward),
+        0x41 => Some(ExtendedLoopType::BackwardBiDirectional),
+        0x42 => Some(ExtendedLoopType::BackwardRelease),
+        0x43 => Some(ExtendedLoopType::BackwardBiDirectionalRelease),
+        0x7E => Some(ExtendedLoopType::BackwardOneShot),
+        0x7F => Some(ExtendedLoopType::OneShot),
+        _ => None,
     }
 }
 
@@ -54,8 +41,8 @@ pub fn extended_loop_type(b: u8) -> ExtendedLoopTypeNamed
 pub fn loop_number(v: u16, all: LoopNumber) -> LoopNumber
     ensures { result ≡ loop_number_of all v }
 {
-    if v == ALL_LOOPS {
-        return all;
+    match v {
+        ALL_LOOPS => all,
+        _ => LoopNumber::Loop(v),
     }
-    LoopNumber::Loop(v)
 }

@@ -1,10 +1,10 @@
 -- What the layouts of identity, General MIDI and handshake messages read, by place.
 -- Assumes nothing.
-use mathlib.Core.Path.{◌≡◌, refl, sym, ap, ◌∙◌}
+use mathlib.Core.Path.{◌≡◌, refl, sym, ap}
 use mathlib.Core.Bool.{true, false}
 use mathlib.Core.Option.{none, some}
 use mathlib.Core.List.{List, [], ◌∷◌}
-use Prim.Native.Nat.{ℕ, ◌+◌, ◌≤◌, ◌<◌}
+use Prim.Native.Nat.{ℕ, ◌≤◌, ◌<◌}
 use native.Mathlib.Omega.{arith}
 use lib.Dec.{lit<, lit≤, eqb}
 use lib.ListN.{length, drop, get_or}
@@ -12,31 +12,18 @@ use borrow.Author.Tests.{eqb-true}
 use Rattle.util.specs.Limits.{most_maker}
 use Rattle.util.specs.Groups.{Seven}
 use Rattle.util.proofs.Laws.Options.{not_some}
-use Rattle.messages.specs.declared.head.Head.{Head}
 use Rattle.messages.specs.declared.head.Head.TheVariants as head
-use Rattle.messages.specs.declared.system_exclusive.UniversalNonRealTimeMsg.{UniversalNonRealTimeMsg}
-use Rattle.messages.specs.declared.system_exclusive.DeviceID.{DeviceID}
 use Rattle.messages.specs.declared.system_exclusive.ManufacturerID.TheVariants.{OneByte, Extended}
 use Rattle.messages.specs.format.Core.{Whole}
 use Rattle.messages.specs.format.Sequence.{◌⊗◌, end, nothing, strip}
 use Rattle.messages.specs.format.Tests.{other_length}
 use Rattle.messages.specs.Fields.{u7, zero_then, one_byte_maker, extended_maker}
 use Rattle.messages.specs.Structures.{AfterMaker, after_maker, reply}
-use Rattle.messages.specs.Layouts.{Fields, form, text_at}
-use Rattle.messages.specs.Messages.{make, given, plain_answer}
+use Rattle.messages.specs.Layouts.{form}
 use Rattle.read_places.specs.Places.{value_at}
-use Rattle.read_places.specs.declared.Found.TheVariants.{Is}
-use Rattle.read_places.specs.Found.{data_of, entries_of, found_of, Reads}
 use Rattle.read_places.proofs.Laws.Numbers.{unsigned_at, range_at}
 use Rattle.read_places.proofs.Laws.Answers.{none_left}
 use Rattle.read_system_exclusive.specs.Replies.{after_maker_at, one_zero}
-
--- a message of numbers alone
-pub reads_numbers : (h : Head) (m : UniversalNonRealTimeMsg) (f : List ℕ) (x : Fields h)
-    → ((d : DeviceID) → found_of d (Is m 0 0 0 0) f ≡ given (make d h x))
-    → length (data_of m f 0) + length (entries_of m f 0 0) ≡ 0 → text_at h ≡ 0 → (form h).read f ≡ some x → Reads h (Is m 0 0 0 0) f
-reads_numbers h m f x says z t e =
-    record { says = λ d. says d ∙ ap (plain_answer d h) (sym e); part = (omega arith, omega arith, omega arith, z); start = (sym t, rw t) }
 
 -- ---- no fields
 

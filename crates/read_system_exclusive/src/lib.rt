@@ -2,197 +2,122 @@
 #![tactic(auto)]
 
 ghost use Rattle.std.specs.Prelude.{◌≡◌, ◌≤◌, length};
-ghost use Rattle.util.specs.Groups.{Seven};
 ghost use Rattle.messages.specs.declared.head.Head.TheVariants as head;
+ghost use Rattle.messages.specs.MessageOf.{head_midi};
 ghost use Rattle.messages.specs.Structures.{reply};
-ghost use Rattle.read_places.specs.Found.{Reads};
+ghost use Rattle.read_places.specs.Found.{Reads, found};
 ghost use Rattle.read_system_exclusive.specs.Replies.{after_maker_at, one_zero};
 
 use messages::general_midi::GeneralMidi;
-use messages::system_exclusive::{
-    IdentityReply, ManufacturerID, SoftwareRevision, UniversalNonRealTimeMsg,
-};
+use messages::system_exclusive::{IdentityReply, ManufacturerID, UniversalNonRealTimeMsg};
 use read_places::Found;
-use util::groups::{u7_at, u14_at};
+use read_places::fields::Fields;
 use util::limits::MOST_MAKER;
 
-// A message of numbers alone, with no text and no list.
-fn numbers(m: UniversalNonRealTimeMsg) -> Found
-    ensures { result ≡ Found.Is m 0 0 0 0 }
-{
-    Found::Is {
-        m,
-        from: 0,
-        len: 0,
-        at: 0,
-        count: 0,
-    }
-}
-
 // The fields of 06 01: none.
-pub fn identity_request(f: &[u8]) -> Found
-    requires { Seven f.now }
+pub fn identity_request(f: &Fields) -> Option<Found>
     ensures { Reads head.IdentityRequest result f.now }
 {
-    if f.len() != 0 {
-        return Found::Nothing;
-    }
-    numbers(UniversalNonRealTimeMsg::IdentityRequest)
+    (f.len() == 0).then_some(Found::numbers(UniversalNonRealTimeMsg::IdentityRequest))
 }
 
 // An identity reply: its maker, and the eight bytes from i on.
-fn reply_of(f: &[u8], id: ManufacturerID, i: usize) -> Found
+fn reply_of(f: &Fields, id: ManufacturerID, i: usize) -> Found
     requires { i ≤ 3 }
-    ensures { result ≡ Found.Is (UniversalNonRealTimeMsg.IdentityReply (reply id (after_maker_at f.now i))) 0 0 0 0 }
+    ensures { result ≡ found (UniversalNonRealTimeMsg.IdentityReply (reply id (after_maker_at f.now i))) 0 0 0 0 }
 {
-    let software_revision = SoftwareRevision {
-        first: u7_at(f, i + 4),
-        second: u7_at(f, i + 5),
-        third: u7_at(f, i + 6),
-        fourth: u7_at(f, i + 7),
-    };
-    numbers(UniversalNonRealTimeMsg::IdentityReply(IdentityReply {
+    let software_revision = (
+        f.u7_at(i + 4),
+        f.u7_at(i + 5),
+        f.u7_at(i + 6),
+        f.u7_at(i + 7),
+    );
+    Found::numbers(UniversalNonRealTimeMsg::IdentityReply(IdentityReply {
         id,
-        family: u14_at(f, i),
-        family_member: u14_at(f, i + 2),
+        family: f.u14_at(i),
+        family_member: f.u14_at(i + 2),
         software_revision,
     }))
 }
 
 // The nine bytes of a reply whose maker has one byte, 01 to 7C.
-fn one_byte_reply(f: &[u8]) -> Found
-    requires { Seven f.now × (length f.now ≡ 9) }
+fn one_byte_reply(f: &Fields) -> Option<Found>
+    requires { length f.now ≡ 9 }
     ensures { Reads head.IdentityReply result f.now }
 {
-    let maker = f[0];
-    if maker < 1 {
-        return Found::Nothing;
+    let maker = f.bytes[0];
+    if maker < 1 || MOST_MAKER < maker {
+        return None;
     }
-    if MOST_MAKER < maker {
-        return Found::Nothing;
-    }
-    reply_of(f, ManufacturerID::OneByte(maker), 1)
+    Some(reply_of(f, ManufacturerID::OneByte(maker), 1))
 }
 
 // The eleven bytes of a reply whose maker has 00 and two bytes.
-fn extended_reply(f: &[u8]) -> Found
-    requires { Seven f.now × (length f.now ≡ 11) }
+fn extended_reply(f: &Fields) -> Option<Found>
+    requires { length f.now ≡ 11 }
     ensures { Reads head.IdentityReply result f.now }
 {
-    if f[0] != 0 {
-        return Found::Nothing;
-    }
-    reply_of(f, ManufacturerID::Extended(u7_at(f, 1), u7_at(f, 2)), 3)
+    let maker = ManufacturerID::Extended(f.u7_at(1), f.u7_at(2));
+    (f.bytes[0] == 0).then_some(reply_of(f, maker, 3))
 }
 
 // The fields of 06 02: maker, family, member, revision.
-pub fn identity_reply(f: &[u8]) -> Found
-    requires { Seven f.now }
+pub fn identity_reply(f: &Fields) -> Option<Found>
     ensures { Reads head.IdentityReply result f.now }
 {
-    if f.len() == 9 {
-        return one_byte_reply(f);
+    match f.len() {
+        9 => one_byte_reply(f),
+        11 => extended_reply(f),
+        _ => None,
     }
-    if f.len() == 11 {
-        return extended_reply(f);
-    }
-    Found::Nothing
 }
 
-// The fields of 09 01: none.
-pub fn general_midi_1(f: &[u8]) -> Found
-    requires { Seven f.now }
-    ensures { Reads head.GeneralMidi1 result f.now }
+// The fields of 09 01 to 09 03: none.
+pub fn general_midi(f: &Fields, mode: GeneralMidi) -> Option<Found>
+    ensures { Reads (head_midi mode) result f.now }
 {
-    if f.len() != 0 {
-        return Found::Nothing;
-    }
-    numbers(UniversalNonRealTimeMsg::GeneralMidi(GeneralMidi::GM1))
-}
-
-// The fields of 09 02: none.
-pub fn general_midi_off(f: &[u8]) -> Found
-    requires { Seven f.now }
-    ensures { Reads head.GeneralMidiOff result f.now }
-{
-    if f.len() != 0 {
-        return Found::Nothing;
-    }
-    numbers(UniversalNonRealTimeMsg::GeneralMidi(GeneralMidi::Off))
-}
-
-// The fields of 09 03: none.
-pub fn general_midi_2(f: &[u8]) -> Found
-    requires { Seven f.now }
-    ensures { Reads head.GeneralMidi2 result f.now }
-{
-    if f.len() != 0 {
-        return Found::Nothing;
-    }
-    numbers(UniversalNonRealTimeMsg::GeneralMidi(GeneralMidi::GM2))
+    (f.len() == 0).then_some(Found::numbers(UniversalNonRealTimeMsg::GeneralMidi(mode)))
 }
 
 // Whether the fields are the one byte 00.
-fn is_zero(f: &[u8]) -> bool
+fn is_zero(f: &Fields) -> bool
     ensures { result ≡ one_zero f.now }
 {
-    if f.len() != 1 {
-        return false;
-    }
-    f[0] == 0
+    f.len() == 1 && f.at(0) == 0
 }
 
+// Kept as functions of their own, `eof` to `ack`: each is one expression, and one over the message would leave its constant and its proof to the table of heads.
 // The fields of 7B: 00.
-pub fn eof(f: &[u8]) -> Found
-    requires { Seven f.now }
+pub fn eof(f: &Fields) -> Option<Found>
     ensures { Reads head.EOF result f.now }
 {
-    if is_zero(f) {
-        return numbers(UniversalNonRealTimeMsg::EOF);
-    }
-    Found::Nothing
+    is_zero(f).then_some(Found::numbers(UniversalNonRealTimeMsg::EOF))
 }
 
 // The fields of 7C: 00.
-pub fn wait(f: &[u8]) -> Found
-    requires { Seven f.now }
+pub fn wait(f: &Fields) -> Option<Found>
     ensures { Reads head.Wait result f.now }
 {
-    if is_zero(f) {
-        return numbers(UniversalNonRealTimeMsg::Wait);
-    }
-    Found::Nothing
+    is_zero(f).then_some(Found::numbers(UniversalNonRealTimeMsg::Wait))
 }
 
 // The fields of 7D: 00.
-pub fn cancel(f: &[u8]) -> Found
-    requires { Seven f.now }
+pub fn cancel(f: &Fields) -> Option<Found>
     ensures { Reads head.Cancel result f.now }
 {
-    if is_zero(f) {
-        return numbers(UniversalNonRealTimeMsg::Cancel);
-    }
-    Found::Nothing
+    is_zero(f).then_some(Found::numbers(UniversalNonRealTimeMsg::Cancel))
 }
 
 // The fields of 7E: the number of a packet.
-pub fn nak(f: &[u8]) -> Found
-    requires { Seven f.now }
+pub fn nak(f: &Fields) -> Option<Found>
     ensures { Reads head.NAK result f.now }
 {
-    if f.len() != 1 {
-        return Found::Nothing;
-    }
-    numbers(UniversalNonRealTimeMsg::NAK(u7_at(f, 0)))
+    (f.len() == 1).then_some(Found::numbers(UniversalNonRealTimeMsg::NAK(f.u7_at(0))))
 }
 
 // The fields of 7F: the number of a packet.
-pub fn ack(f: &[u8]) -> Found
-    requires { Seven f.now }
+pub fn ack(f: &Fields) -> Option<Found>
     ensures { Reads head.ACK result f.now }
 {
-    if f.len() != 1 {
-        return Found::Nothing;
-    }
-    numbers(UniversalNonRealTimeMsg::ACK(u7_at(f, 0)))
+    (f.len() == 1).then_some(Found::numbers(UniversalNonRealTimeMsg::ACK(f.u7_at(0))))
 }

@@ -6,7 +6,6 @@ mod scales;
 
 ghost use Rattle.std.specs.Prelude.{◌≡◌, ◌≤◌, length};
 ghost use Rattle.util.specs.Limits.{most_places};
-ghost use Rattle.util.specs.Groups.{Seven};
 ghost use Rattle.util.specs.Splice.{overwritten};
 ghost use Rattle.util.specs.Channels.{channels_of};
 ghost use Rattle.messages.specs.declared.head.Head.TheVariants as head;
@@ -17,224 +16,188 @@ ghost use Rattle.read_places.specs.Found.{Reads, is_read};
 use messages::system_exclusive::UniversalNonRealTimeMsg;
 use messages::tuning::{
     ChannelBitMap, KeyBasedTuningDump, ScaleTuning1Byte, ScaleTuning2Byte, ScaleTuningDump1Byte,
-    ScaleTuningDump2Byte, TuningBank, TuningNoteChange,
+    ScaleTuningDump2Byte, TuningNoteChange,
 };
 use read_places::Found;
-use util::channels::ChannelSet;
+use read_places::entries::put_each;
+use read_places::fields::Fields;
 use util::limits::KEYS;
 use util::{channels, groups};
 
+// Kept as pairs, with a bank or without, of one group or of two: each head is a row of the layouts, which its clause names; one function over two
+// rows would name both, and is no plainer.
+
 // 08 00: the program.
-pub fn bulk_request(f: &[u8]) -> Found
-    requires { Seven f.now }
+pub fn bulk_request(f: &Fields) -> Option<Found>
     ensures { Reads head.TuningBulkDumpRequest result f.now }
 {
     if f.len() != 1 {
-        return Found::Nothing;
+        return None;
     }
-    Found::Is {
-        m: UniversalNonRealTimeMsg::TuningBulkDumpRequest {
-            tuning_bank_num: TuningBank::NoBank,
-            tuning_program_num: groups::u7_at(f, 0),
-        },
-        from: 0,
-        len: 0,
-        at: 0,
-        count: 0,
-    }
+    Some(Found::numbers(UniversalNonRealTimeMsg::TuningBulkDumpRequest {
+        tuning_bank_num: None,
+        tuning_program_num: f.u7_at(0),
+    }))
 }
 
 // 08 03: bank, program.
-pub fn bank_bulk_request(f: &[u8]) -> Found
-    requires { Seven f.now }
+pub fn bank_bulk_request(f: &Fields) -> Option<Found>
     ensures { Reads head.BankTuningBulkDumpRequest result f.now }
 {
     if f.len() != 2 {
-        return Found::Nothing;
+        return None;
     }
-    Found::Is {
-        m: UniversalNonRealTimeMsg::TuningBulkDumpRequest {
-            tuning_bank_num: TuningBank::Bank(groups::u7_at(f, 0)),
-            tuning_program_num: groups::u7_at(f, 1),
-        },
-        from: 0,
-        len: 0,
-        at: 0,
-        count: 0,
-    }
+    Some(Found::numbers(UniversalNonRealTimeMsg::TuningBulkDumpRequest {
+        tuning_bank_num: Some(f.u7_at(0)),
+        tuning_program_num: f.u7_at(1),
+    }))
 }
 
 // 08 01: program, 16 name bytes, 128 tunings.
-pub fn key_dump(f: &[u8]) -> Found
-    requires { Seven f.now }
+pub fn key_dump(f: &Fields) -> Option<Found>
     ensures { Reads head.KeyBasedTuningDump result f.now }
 {
     if f.len() != 401 {
-        return Found::Nothing;
+        return None;
     }
-    Found::Is {
+    Some(Found {
         m: UniversalNonRealTimeMsg::KeyBasedTuningDump(KeyBasedTuningDump {
-            tuning_bank_num: TuningBank::NoBank,
-            tuning_program_num: groups::u7_at(f, 0),
+            tuning_bank_num: None,
+            tuning_program_num: f.u7_at(0),
         }),
         from: 1,
         len: 16,
         at: 17,
         count: KEYS,
-    }
+    })
 }
 
 // Whether bytes are the fields of 08 01.
-pub fn is_key_dump(f: &[u8]) -> bool
-    requires { Seven f.now }
+pub fn is_key_dump(f: &Fields) -> bool
     ensures { result ≡ is_read ((form head.KeyBasedTuningDump).read f.now) }
 {
     f.len() == 401
 }
 
 // 08 04: bank, program, 16 name bytes, 128 tunings.
-pub fn bank_key_dump(f: &[u8]) -> Found
-    requires { Seven f.now }
+pub fn bank_key_dump(f: &Fields) -> Option<Found>
     ensures { Reads head.BankKeyBasedTuningDump result f.now }
 {
     if f.len() != 402 {
-        return Found::Nothing;
+        return None;
     }
-    Found::Is {
+    Some(Found {
         m: UniversalNonRealTimeMsg::KeyBasedTuningDump(KeyBasedTuningDump {
-            tuning_bank_num: TuningBank::Bank(groups::u7_at(f, 0)),
-            tuning_program_num: groups::u7_at(f, 1),
+            tuning_bank_num: Some(f.u7_at(0)),
+            tuning_program_num: f.u7_at(1),
         }),
         from: 2,
         len: 16,
         at: 18,
         count: KEYS,
-    }
+    })
 }
 
 // 08 05: bank, program, 16 name bytes, twelve signed values of one group.
-pub fn scale_dump_1(f: &[u8]) -> Found
-    requires { Seven f.now }
+pub fn scale_dump_1(f: &Fields) -> Option<Found>
     ensures { Reads head.ScaleTuningDump1Byte result f.now }
 {
     if f.len() != 30 {
-        return Found::Nothing;
+        return None;
     }
-    Found::Is {
+    Some(Found {
         m: UniversalNonRealTimeMsg::ScaleTuningDump1Byte(ScaleTuningDump1Byte {
-            tuning_bank_num: groups::u7_at(f, 0),
-            tuning_program_num: groups::u7_at(f, 1),
+            tuning_bank_num: f.u7_at(0),
+            tuning_program_num: f.u7_at(1),
             tuning: scales::scale_1_at(f, 18),
         }),
         from: 2,
         len: 16,
         at: 0,
         count: 0,
-    }
+    })
 }
 
 // 08 06: bank, program, 16 name bytes, twelve signed values of two groups.
-pub fn scale_dump_2(f: &[u8]) -> Found
-    requires { Seven f.now }
+pub fn scale_dump_2(f: &Fields) -> Option<Found>
     ensures { Reads head.ScaleTuningDump2Byte result f.now }
 {
     if f.len() != 42 {
-        return Found::Nothing;
+        return None;
     }
-    Found::Is {
+    Some(Found {
         m: UniversalNonRealTimeMsg::ScaleTuningDump2Byte(ScaleTuningDump2Byte {
-            tuning_bank_num: groups::u7_at(f, 0),
-            tuning_program_num: groups::u7_at(f, 1),
+            tuning_bank_num: f.u7_at(0),
+            tuning_program_num: f.u7_at(1),
             tuning: scales::scale_2_at(f, 18),
         }),
         from: 2,
         len: 16,
         at: 0,
         count: 0,
-    }
+    })
 }
 
 // 08 07: bank, program, the number of note changes, the note changes.
-pub fn note_change(f: &[u8]) -> Found
-    requires { Seven f.now }
+pub fn note_change(f: &Fields) -> Option<Found>
     ensures { Reads head.TuningNoteChange result f.now }
 {
     if f.len() < 3 {
-        return Found::Nothing;
+        return None;
     }
-    let n = groups::u7_at(f, 2) as usize;
+    let n = f.u7_at(2) as usize;
     if f.len() != 3 + 4 * n {
-        return Found::Nothing;
+        return None;
     }
-    Found::Is {
+    Some(Found {
         m: UniversalNonRealTimeMsg::TuningNoteChange(TuningNoteChange {
-            tuning_bank_num: TuningBank::Bank(groups::u7_at(f, 0)),
-            tuning_program_num: groups::u7_at(f, 1),
+            tuning_bank_num: Some(f.u7_at(0)),
+            tuning_program_num: f.u7_at(1),
         }),
         from: 0,
         len: 0,
         at: 3,
         count: n,
-    }
+    })
 }
 
-// What the first three bytes name: a set of channels, or a spare bit.
-fn channels_at(f: &[u8]) -> ChannelSet
-    requires { Seven f.now }
+// The set of channels that the first three bytes name; none where a spare bit is set.
+fn channels_at(f: &Fields) -> Option<u16>
     ensures { result ≡ channels_of (value_at 1 f.now 0) (value_at 1 f.now 1) (value_at 1 f.now 2) }
 {
-    let first = groups::u7_at(f, 0);
-    let second = groups::u7_at(f, 1);
-    let third = groups::u7_at(f, 2);
+    let bytes = f.bytes;
+    let first = groups::u7_at(bytes, 0);
+    let second = groups::u7_at(bytes, 1);
+    let third = groups::u7_at(bytes, 2);
     channels::channels_of(first, second, third)
 }
 
 // 08 08: three channel bytes, twelve signed values of one group.
-pub fn scale_1(f: &[u8]) -> Found
-    requires { Seven f.now }
+pub fn scale_1(f: &Fields) -> Option<Found>
     ensures { Reads head.ScaleTuning1Byte result f.now }
 {
     if f.len() != 15 {
-        return Found::Nothing;
+        return None;
     }
-    let set = channels_at(f);
-    match set {
-        ChannelSet::Set(channels) => Found::Is {
-            m: UniversalNonRealTimeMsg::ScaleTuning1Byte(ScaleTuning1Byte {
-                channels: ChannelBitMap { channels },
-                tuning: scales::scale_1_at(f, 3),
-            }),
-            from: 0,
-            len: 0,
-            at: 0,
-            count: 0,
-        },
-        ChannelSet::Spare => Found::Nothing,
-    }
+    let channels = channels_at(f)?;
+    Some(Found::numbers(UniversalNonRealTimeMsg::ScaleTuning1Byte(ScaleTuning1Byte {
+        channels: ChannelBitMap { channels },
+        tuning: scales::scale_1_at(f, 3),
+    })))
 }
 
 // 08 09: three channel bytes, twelve signed values of two groups.
-pub fn scale_2(f: &[u8]) -> Found
-    requires { Seven f.now }
+pub fn scale_2(f: &Fields) -> Option<Found>
     ensures { Reads head.ScaleTuning2Byte result f.now }
 {
     if f.len() != 27 {
-        return Found::Nothing;
+        return None;
     }
-    let set = channels_at(f);
-    match set {
-        ChannelSet::Set(channels) => Found::Is {
-            m: UniversalNonRealTimeMsg::ScaleTuning2Byte(ScaleTuning2Byte {
-                channels: ChannelBitMap { channels },
-                tuning: scales::scale_2_at(f, 3),
-            }),
-            from: 0,
-            len: 0,
-            at: 0,
-            count: 0,
-        },
-        ChannelSet::Spare => Found::Nothing,
-    }
+    let channels = channels_at(f)?;
+    Some(Found::numbers(UniversalNonRealTimeMsg::ScaleTuning2Byte(ScaleTuning2Byte {
+        channels: ChannelBitMap { channels },
+        tuning: scales::scale_2_at(f, 3),
+    })))
 }
 
 // Puts n tunings from a place of the fields on into the front of lent places.
@@ -242,11 +205,7 @@ pub fn put_tunings(out: &mut [u64], f: &[u8], at: usize, n: usize)
     requires { (n ≤ length out.old) × (n ≤ most_places) × (at ≤ length f.now) }
     ensures { out.new ≡ overwritten (tuning_entries f.now at n) out.old }
 {
-    let mut i = 0;
-    while i < n {
-        out[i] = entries::tuning_at(f, at + 3 * i);
-        i += 1;
-    }
+    put_each(out, n, |i| entries::tuning_at(f, at + 3 * i));
 }
 
 // Puts n note changes from a place of the fields on into the front of lent places.
@@ -254,9 +213,5 @@ pub fn put_changes(out: &mut [u64], f: &[u8], at: usize, n: usize)
     requires { (n ≤ length out.old) × (n ≤ most_places) × (at ≤ length f.now) }
     ensures { out.new ≡ overwritten (change_entries f.now at n) out.old }
 {
-    let mut i = 0;
-    while i < n {
-        out[i] = entries::change_at(f, at + 4 * i);
-        i += 1;
-    }
+    put_each(out, n, |i| entries::change_at(f, at + 4 * i));
 }

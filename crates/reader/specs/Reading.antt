@@ -1,5 +1,5 @@
 -- Reading (01, "Reading and the walk"): what an answer says, every number of it, and what the lent space holds after it.
-use Rattle.std.specs.Prelude.{◌≡◌, Bool, true, false, List, [], ◌∷◌, ℕ, length, take, drop}
+use Rattle.std.specs.Prelude.{◌≡◌, Bool, true, false, List, [], ◌∷◌, ℕ, length, take, drop, Result, Ok, Err}
 use Rattle.util.specs.Splice.{overwritten}
 use Rattle.util.specs.Refusals.{number}
 use Rattle.messages.specs.declared.system_exclusive.UniversalNonRealTimeMsg.{UniversalNonRealTimeMsg}
@@ -9,23 +9,23 @@ use Rattle.messages.specs.declared.file_dump.FileDumpMsg.TheVariants as file
 use Rattle.messages.specs.Messages.{Message, Answer, refused, given, text, text_start, file_data, entries, places, holding}
 use Rattle.messages.specs.MessageOf.{message_of}
 use Rattle.read_places.specs.Found.{text_from}
+use Rattle.util.specs.declared.refusal.Refusal.{Refusal}
 use Rattle.reader.specs.declared.lent.Reading.{Reading}
-use Rattle.reader.specs.declared.lent.Reading.TheVariants as reading
 
 -- 01's number of an answer: "Where nothing is refused the number is 0"
-abbrev pub reading_number : Reading → ℕ
-reading_number (reading.Frame d m from len n) = 0
-reading_number (reading.Refused r) = number r
+abbrev pub reading_number : Result Reading Refusal → ℕ
+reading_number (Ok x) = 0
+reading_number (Err r) = number r
 
 -- 01's value of an answer, "each reading the message": what it says with the frame and what lent space holds
-abbrev pub said : Reading → List ℕ → List ℕ → List ℕ → Answer Message
-said (reading.Frame d m from len n) frame dat es = given (message_of d m (text_from m (take len (drop from frame)) (take n dat)) (take n es))
-said (reading.Refused r) frame dat es = refused r
+abbrev pub said : Result Reading Refusal → List ℕ → List ℕ → List ℕ → Answer Message
+said (Ok x) frame dat es = given (message_of x.device x.m (text_from x.m (take x.len (drop x.from frame)) (take x.places dat)) (take x.places es))
+said (Err r) frame dat es = refused r
 
 -- the numbers of an answer beside the message: where its name, URL or sample bytes begin in the frame, how many they are, the lent places it takes
-abbrev pub text_and_places : Reading → List ℕ
-text_and_places (reading.Frame d m from len n) = from ∷ len ∷ n ∷ []
-text_and_places (reading.Refused r) = []
+abbrev pub text_and_places : Result Reading Refusal → List ℕ
+text_and_places (Ok x) = x.from ∷ x.len ∷ x.places ∷ []
+text_and_places (Err r) = []
 
 -- those of the message that is given: start 0 and length 0 where it has no text, places 0 where it has no list
 abbrev pub text_and_places_of : Answer Message → List ℕ
@@ -44,7 +44,7 @@ entries_given (refused r) = []
 entries_given (given m) = entries m
 
 -- examining a frame whose answer is a: what a reading answers that is lent the places which the message takes
-pub record Tells (r : Reading) (a : Answer Message) (frame : List ℕ) : Type 0 where
+pub record Tells (r : Result Reading Refusal) (a : Answer Message) (frame : List ℕ) : Type 0 where
   pub says : said r frame (data_given a) (entries_given a) ≡ a
   pub numbers_are : text_and_places r ≡ text_and_places_of a
 
@@ -61,7 +61,7 @@ entries_after (refused r) l = l
 entries_after (given m) l = overwritten (entries m) l
 
 -- reading a frame whose answer without lent space is a: the answer with lent space, and what lent space holds after it
-pub record ReadMet (r : Reading) (a : Answer Message) (frame dat dat' es es' : List ℕ) : Type 0 where
+pub record ReadMet (r : Result Reading Refusal) (a : Answer Message) (frame dat dat' es es' : List ℕ) : Type 0 where
   pub says : said r frame dat' es' ≡ holding (length dat) (length es) a
   pub numbers_are : text_and_places r ≡ text_and_places_of (holding (length dat) (length es) a)
   pub data_is : dat' ≡ data_after (holding (length dat) (length es) a) dat

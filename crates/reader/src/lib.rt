@@ -5,23 +5,23 @@ pub mod lent;
 pub mod opening;
 mod test;
 
-ghost use Rattle.std.specs.Prelude.{◌≡◌, get_or};
+ghost use Rattle.std.specs.Prelude.{◌≡◌, get_or, Ok};
 ghost use Rattle.std.proofs.Math.Option.{some};
 ghost use Rattle.messages.specs.Messages.{read_of, inside};
 ghost use Rattle.messages.specs.Walk.{is_frame};
-ghost use Rattle.reader.specs.declared.opening.Opening.TheVariants as opening;
 ghost use Rattle.reader.specs.Opening.{inner, opens_as, placed, Opens};
 ghost use Rattle.reader.specs.Reading.{Tells, ReadMet};
 
 use lent::Reading;
 use messages::file_reference::Kind;
-use messages::head::Head;
+use messages::system_exclusive::DeviceID;
 use opening::Opening;
-use read_places::Found;
+use read_places::fields::Fields;
+use util::groups::at;
 use util::refusal::Refusal;
 
 // The opening of a frame of the right shape, for a kind of sound file.
-fn opening_shaped(frame: &[u8], kind: Kind) -> Opening
+fn opening_shaped(frame: &[u8], kind: Kind) -> Result<Opening, Refusal>
     requires { inside frame.now ≡ some (inner frame.now) }
     ensures { Opens result (inner frame.now) (read_of kind frame.now) }
 {
@@ -30,66 +30,59 @@ fn opening_shaped(frame: &[u8], kind: Kind) -> Opening
 }
 
 // The opening of a frame, for a kind of sound file.
-pub fn opening_in(frame: &[u8], kind: Kind) -> Opening
+pub fn opening_in(frame: &[u8], kind: Kind) -> Result<Opening, Refusal>
     ensures { Opens result (inner frame.now) (read_of kind frame.now) }
 {
     if frame.len() < 6 {
-        return Opening::Refused(Refusal::Shape);
+        return Err(Refusal::Shape);
     }
     let e = frame.len() - 1;
     if frame[0] != 0xF0 {
-        return Opening::Refused(Refusal::Shape);
+        return Err(Refusal::Shape);
     }
     if frame[e] != 0xF7 {
-        return Opening::Refused(Refusal::Shape);
+        return Err(Refusal::Shape);
     }
     if util::bytes::is_seven(&frame[1..e]) {
         opening_shaped(frame, kind)
     } else {
-        Opening::Refused(Refusal::Shape)
+        Err(Refusal::Shape)
     }
 }
 
-// What the fields of a frame say under a head, with whether its checksum is right.
-fn examine_fields(frame: &[u8], h: Head, start: usize, end: usize, sum: bool) -> Reading
-    requires { placed (opening.Fields h start end sum) (inner frame.now) }
-    ensures { Tells result (opens_as (opening.Fields h start end sum) (inner frame.now)) frame.now }
+// What the fields of a frame say where its opening has them.
+fn examine_fields(frame: &[u8], o: Opening) -> Result<Reading, Refusal>
+    requires { placed (Ok o) (inner frame.now) }
+    ensures { Tells result (opens_as (Ok o) (inner frame.now)) frame.now }
 {
-    let a = 1 + start;
-    let e = 1 + end;
-    let device = messages::system_exclusive::device_of(util::groups::at(frame, 2));
-    match read_heads::fields_of(h, &frame[a..e]) {
-        Found::Is {
-            m,
-            from,
-            len,
-            at: _,
-            count,
-        } => {
-            if sum {
-                Reading::Frame {
-                    device,
-                    m,
-                    from: lent::text_start(frame, a, from),
-                    len,
-                    places: count,
-                }
+    let start = 1 + o.start;
+    let e = 1 + o.end;
+    let bytes = &frame[start..e];
+    let f = Fields { bytes };
+    match read_heads::fields_of(o.h, &f) {
+        Some(found) => {
+            if o.sum {
+                Ok(Reading {
+                    device: DeviceID::from(at(frame, 2)),
+                    m: found.m,
+                    from: lent::text_start(frame, start, found.from),
+                    len: found.len,
+                    places: found.count,
+                })
             } else {
-                Reading::Refused(Refusal::Sum)
+                Err(Refusal::Sum)
             }
         }
-        Found::Nothing => Reading::Refused(Refusal::Field),
+        None => Err(Refusal::Field),
     }
 }
 
 // What reading a frame for a kind of sound file would answer with as many lent places as it takes; nothing is written.
-pub fn examine(frame: &[u8], kind: Kind) -> Reading
+pub fn examine(frame: &[u8], kind: Kind) -> Result<Reading, Refusal>
     ensures { Tells result (read_of kind frame.now) frame.now }
 {
-    match opening_in(frame, kind) {
-        Opening::Fields { h, start, end, sum } => examine_fields(frame, h, start, end, sum),
-        Opening::Refused(n) => Reading::Refused(n),
-    }
+    let o = opening_in(frame, kind)?;
+    examine_fields(frame, o)
 }
 
 // Whether a stretch of the right shape, 7E after its F0, is a frame for a kind of sound file.
@@ -105,20 +98,18 @@ pub fn is_frame_shaped(stretch: &[u8], kind: Kind) -> bool
 pub fn is_frame(stretch: &[u8], kind: Kind) -> bool
     ensures { result ≡ is_frame kind stretch.now }
 {
-    match examine(stretch, kind) {
-        Reading::Frame { .. } => true,
-        Reading::Refused(_) => false,
-    }
+    examine(stretch, kind).is_ok()
 }
 
 // Reads a frame for a kind of sound file, its file data and entries into lent places.
-pub fn read(frame: &[u8], kind: Kind, data: &mut [u8], entries: &mut [u64]) -> Reading
+pub fn read(
+    frame: &[u8],
+    kind: Kind,
+    data: &mut [u8],
+    entries: &mut [u64],
+) -> Result<Reading, Refusal>
     ensures { ReadMet result (read_of kind frame.now) frame.now «data».old «data».new entries.old entries.new }
 {
-    match opening_in(frame, kind) {
-        Opening::Fields { h, start, end, sum } => lent::read_fields(
-            frame, h, start, end, sum, data, entries,
-        ),
-        Opening::Refused(n) => Reading::Refused(n),
-    }
+    let o = opening_in(frame, kind)?;
+    lent::read_fields(frame, o, data, entries)
 }

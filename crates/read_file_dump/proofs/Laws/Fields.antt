@@ -1,6 +1,6 @@
 -- The fields of file dumps, by place.
 -- Assumes nothing.
-use mathlib.Core.Path.{◌≡◌, refl, sym, ap, ◌∙◌, subst}
+use mathlib.Core.Path.{◌≡◌, refl, sym, ap, ◌∙◌}
 use mathlib.Core.Bool.{Bool, true, false}
 use mathlib.Core.Option.{Option, none, some}
 use mathlib.Core.List.{List}
@@ -18,17 +18,11 @@ use Rattle.util.proofs.Laws.Groups.{seven_drop, true_seven}
 use Rattle.util.proofs.Laws.Options.{not_some}
 use Rattle.util.proofs.Laws.Splice.{tail_drop}
 use Rattle.messages.specs.declared.head.Head.TheVariants as head
-use Rattle.messages.specs.declared.file_dump.FileDumpMsg.TheVariants as file
-use Rattle.messages.specs.declared.system_exclusive.UniversalNonRealTimeMsg.TheVariants as msg
 use Rattle.messages.specs.Fields.{device_of}
 use Rattle.messages.specs.Layouts.{form, Fields}
 use Rattle.messages.specs.Records.{file_packet}
-use Rattle.messages.specs.Messages.{plain_answer}
 use Rattle.messages.specs.format.Packed.{counted_as, count_byte}
 use Rattle.read_places.specs.Places.{value_at, data_at, none_over}
-use Rattle.read_places.specs.declared.Found.{Found}
-use Rattle.read_places.specs.declared.Found.TheVariants.{Is}
-use Rattle.read_places.specs.Found.{Reads}
 use Rattle.read_places.proofs.Laws.Numbers.{unsigned_at}
 use Rattle.read_file_dump.specs.Places.{type_at}
 use Rattle.read_file_dump.proofs.Laws.Packed.{unpack_none_over, data_length}
@@ -44,7 +38,7 @@ module _ (f : List ℕ) (s : Seven f) where
       let m : length a.name ≤ most_name = leb-true (length a.name) most_name w.0.1.1.1.1 in
       k (omega arith) (omega arith)
 
-  pub header_reads : 9 ≤ length f → length f - 9 ≤ most_name
+  pub header_reads : 9 ≤ length f → length f ≤ 9 + most_name
       → (form head.FileDumpHeader).read f
       ≡ some (record { sender = device_of (value_at 1 f 0); type = type_at f 1; length = value_at 4 f 5; name = take (length f - 9) (drop 9 f) })
   header_reads h m =
@@ -60,16 +54,6 @@ module _ (f : List ℕ) (s : Seven f) where
         le-leb (length (drop 9 f)) most_name (omega (arith, length-drop 9 f)),
       )
 
-  pub header_found : 9 ≤ length f → length f - 9 ≤ most_name → (r : Found)
-      → r ≡ Is (msg.FileDump (file.Header (device_of (value_at 1 f 0)) (type_at f 1) (value_at 4 f 5))) 9 (length f - 9) 0 0 → Reads head.FileDumpHeader r f
-  header_found h m r e =
-      subst (λ (r : Found). Reads head.FileDumpHeader r f) (sym e)
-      (record {
-        says = λ d. ap (plain_answer d head.FileDumpHeader) (sym (header_reads h m));
-        part = (omega arith, omega arith, omega arith, refl);
-        start = (refl, refl);
-      })
-
   -- ---- 07 03
 
   pub request_not : (5 ≤ length f → length f ≤ 5 + most_name → ⊥) → (form head.FileDumpRequest).read f ≡ none
@@ -80,7 +64,7 @@ module _ (f : List ℕ) (s : Seven f) where
       let m : length a.name ≤ most_name = leb-true (length a.name) most_name w.0.1.1.1 in
       k (omega arith) (omega arith)
 
-  pub request_reads : 5 ≤ length f → length f - 5 ≤ most_name
+  pub request_reads : 5 ≤ length f → length f ≤ 5 + most_name
       → (form head.FileDumpRequest).read f ≡ some (record { requester = device_of (value_at 1 f 0); type = type_at f 1; name = take (length f - 5) (drop 5 f) })
   request_reads h m =
       rw (
@@ -93,16 +77,6 @@ module _ (f : List ℕ) (s : Seven f) where
         true_seven (drop 5 f) (seven_drop 5 f s),
         le-leb (length (drop 5 f)) most_name (omega (arith, length-drop 5 f)),
       )
-
-  pub request_found : 5 ≤ length f → length f - 5 ≤ most_name → (r : Found)
-      → r ≡ Is (msg.FileDump (file.Request (device_of (value_at 1 f 0)) (type_at f 1))) 5 (length f - 5) 0 0 → Reads head.FileDumpRequest r f
-  request_found h m r e =
-      subst (λ (r : Found). Reads head.FileDumpRequest r f) (sym e)
-      (record {
-        says = λ d. ap (plain_answer d head.FileDumpRequest) (sym (request_reads h m));
-        part = (omega arith, omega arith, omega arith, refl);
-        start = (refl, refl);
-      })
 
   -- ---- 07 02
 
@@ -153,13 +127,3 @@ module _ (f : List ℕ) (s : Seven f) where
   -- how many data bytes there are
   pub packet_size : length (data_at f 2) ≡ length f - 2 - (length f - 2 + 7) / 8
   packet_size = omega (arith, data_length 0 0 (drop 2 f) (omega arith), length-drop 2 f)
-
-  pub packet_found : 2 ≤ length f → none_over 0 0 (drop 2 f) ≡ true → (n : ℕ) → n ≡ length (data_at f 2) → n ≤ most_data → get_or f 1 0 ≡ n + n / 7 → (r : Found)
-      → r ≡ Is (msg.FileDump (file.Packet (value_at 1 f 0))) 0 0 2 n → Reads head.FileDumpPacket r f
-  packet_found h t n z g c r e =
-      subst (λ (r : Found). Reads head.FileDumpPacket r f) (sym e)
-      (record {
-        says = λ d. ap (plain_answer d head.FileDumpPacket) (sym (packet_reads h t (omega arith) (c ∙ ap (λ (m : ℕ). m + m / 7) z)));
-        part = (omega arith, h, omega arith, omega arith);
-        start = (refl, refl);
-      })

@@ -1,19 +1,14 @@
--- `read_file_dump::request` meets its contract.
+-- `read_file_dump::request` meets its contract: the name is what follows its 5 bytes, at most 1,024.
 -- Assumes nothing.
-use mathlib.Core.Path.{◌∙◌}
+use mathlib.Core.Path.{refl}
 use native.Mathlib.Omega.{arith}
 use Rattle.messages.specs.declared.head.Head.TheVariants as head
-use Rattle.read_places.proofs.Laws.Answers.{reads_none}
-use Rattle.read_file_dump.proofs.Laws.Fields.{request_not, request_found}
+use Rattle.read_places.proofs.Laws.Answers.{reads_found}
+use Rattle.read_file_dump.proofs.Laws.Fields.{request_reads}
 use Rattle.read_file_dump.proofs.request.Goals as goal
-
-pub returns-then-f-lt5 : goal.returns-then-f-lt5
-returns-then-f-lt5 c = let x = c.if-f-lt5.true in reads_none head.FileDumpRequest _ (request_not c.args.f.now c.requires λ p q. omega arith)
-
-pub returns-then-n-gt-MOST_NAME : goal.returns-then-n-gt-MOST_NAME
-returns-then-n-gt-MOST_NAME c = let x = c.if-n-gt-MOST_NAME.true in reads_none head.FileDumpRequest _ (request_not c.args.f.now c.requires λ p q. omega arith)
 
 pub returns : goal.returns
 returns c =
-    request_found c.args.f.now c.requires c.if-f-lt5.false c.if-n-gt-MOST_NAME.false _
-    (c.request_of.ensures ∙ rw (c.device_of-requester_device.ensures, c.u7_at.ensures, c.type_at-file_type.ensures))
+    let f = c.args.f.now in
+    rw (c.numbers.ensures, c.type_at.ensures, c.from.ensures, c.u7_at.ensures, c.len-size.ensures.size)
+    (reads_found head.FileDumpRequest f _ _ (λ d. refl) (omega arith, omega arith, omega arith, refl) (refl, refl) (request_reads f c.len-size.ensures.seven (omega arith) (omega arith)))

@@ -3,6 +3,7 @@
 use mathlib.Core.Path.{◌≡◌, refl, sym, ap, ◌∙◌}
 use mathlib.Core.Option.{none, some}
 use mathlib.Core.List.{List, [], ◌∷◌, ◌++◌}
+use Rattle.std.specs.Prelude.{Some}
 use Prim.Native.Nat.{ℕ, suc, ◌+◌, ◌<◌, ◌≤◌}
 use native.Mathlib.Omega.{arith}
 use lib.ListN.{length, take, drop, get_or, length-append}
@@ -18,16 +19,16 @@ use Rattle.messages.specs.declared.file_reference.FileReferenceType.{FileReferen
 use Rattle.messages.specs.format.Core.{bad, got}
 use Rattle.messages.specs.format.Tests.{other_length}
 use Rattle.messages.specs.format.Tags.{look}
+use Rattle.messages.specs.format.Texts.{read_text}
 use Rattle.messages.specs.Maps.{reference_types, reference_code, reference_size}
 use Rattle.messages.specs.Layouts.{form}
 use Rattle.messages.specs.Messages.{plain_answer}
 use Rattle.read_places.specs.Places.{value_at}
-use Rattle.read_places.specs.Found.{Reads}
-use Rattle.read_places.specs.declared.Found.TheVariants.{Is}
+use Rattle.read_places.specs.Found.{Reads, found}
 use Rattle.read_places.proofs.Laws.Numbers.{unsigned_at}
 use Rattle.read_places.proofs.Laws.Answers.{none_left}
 use Rattle.read_file_reference.specs.Texts.{first_zero}
-use Rattle.read_file_reference.proofs.Laws.Texts.{url_none, url_long, url_at, url_length}
+use Rattle.read_file_reference.proofs.Laws.Texts.{url_at, url_length}
 
 -- four letters, the URL and 00
 url_size : (t : FileReferenceType) (u : List ℕ) → length (reference_code t ++ (u ++ (0 ∷ []))) ≡ 5 + length u
@@ -63,13 +64,10 @@ module _ (f : List ℕ) (s : Seven f) where
     open_type e = rw (unsigned_at f s 2 0 (omega arith), unsigned_at f s 2 2 (omega arith), e)
 
     module _ (t : FileReferenceType) (e : look reference_types (drop 4 f) ≡ got t (drop 8 f)) where
-      pub open_endless : length f ≤ 8 + first_zero (drop 8 f) → (form head.FileReferenceOpen).read f ≡ none
-      open_endless h = rw (unsigned_at f s 2 0 (omega arith), unsigned_at f s 2 2 (omega arith), e, url_none f s 8 most_url h)
+      pub open_endless : read_text most_url (drop 8 f) ≡ bad → (form head.FileReferenceOpen).read f ≡ none
+      open_endless u = rw (unsigned_at f s 2 0 (omega arith), unsigned_at f s 2 2 (omega arith), e, u)
 
       module _ (h : 8 + first_zero (drop 8 f) < length f) where
-        pub open_long : most_url < first_zero (drop 8 f) → (form head.FileReferenceOpen).read f ≡ none
-        open_long g = rw (unsigned_at f s 2 0 (omega arith), unsigned_at f s 2 2 (omega arith), e, url_long f s 8 h most_url g)
-
         module _ (g : first_zero (drop 8 f) ≤ most_url) where
           pub open_more : (length f ≡ 8 + first_zero (drop 8 f) + 1 → ⊥) → (form head.FileReferenceOpen).read f ≡ none
           open_more k =
@@ -107,7 +105,7 @@ module _ (f : List ℕ) (s : Seven f) where
                 )
 
             pub open_found : value_at 2 f 2 ≡ 5 + first_zero (drop 8 f) → (l : ℕ) → l ≡ first_zero (drop 8 f)
-                → Reads head.FileReferenceOpen (Is (FileReference (Open (value_at 2 f 0) t)) 8 l 0 0) f
+                → Reads head.FileReferenceOpen (Some (found (FileReference (Open (value_at 2 f 0) t)) 8 l 0 0)) f
             open_found v l z =
                 rw z
                 record {

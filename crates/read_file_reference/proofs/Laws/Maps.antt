@@ -1,6 +1,6 @@
 -- The maps of file references, by place.
 -- Assumes nothing.
-use mathlib.Core.Path.{◌≡◌, refl, sym, ap, ap₂, ◌∙◌}
+use mathlib.Core.Path.{◌≡◌, refl, sym, ap, ◌∙◌}
 use mathlib.Core.Bool.{Bool, true, false, not}
 use mathlib.Core.Option.{none, some}
 use mathlib.Core.List.{List, [], ◌∷◌, map}
@@ -9,7 +9,7 @@ use native.Mathlib.Nat.{add-zero, mul-zero, mul-suc}
 use native.Mathlib.Omega.{arith}
 use lib.Dec.{eqb, ltb, leb, lit<, lit≤}
 use lib.ListN.{length, drop, get_or}
-use lib.Seq.{drop-cons, drop-drop}
+use lib.Seq.{drop-cons}
 use borrow.Author.Tests.{lt-ltb, le-leb, lt-leb, leb-true, leb-false, ne_eqb}
 use Rattle.util.specs.Groups.{Seven}
 use Rattle.messages.specs.declared.file_reference.SoundFileMap.{SoundFileMap}
@@ -200,20 +200,3 @@ flags_start f i n =
 
 pub flags_done : (f : List ℕ) (i n j : ℕ) → n ≤ j → flags_fit f i (n - j) ≡ true
 flags_done f i n j h = let e : n - j ≡ 0 = omega arith in ap (flags_fit f i) e
-
--- ---- maps of a part of the fields
-
-pub map_part : (f : List ℕ) (k i : ℕ) → map_at (drop k f) i ≡ map_at f (k + i)
-map_part f k i =
-    let e2 : k + (i + 2) ≡ k + i + 2 = omega arith in
-    let e3 : k + (i + 3) ≡ k + i + 3 = omega arith in
-    let e5 : k + (i + 5) ≡ k + i + 5 = omega arith in
-    let e6 : k + (i + 6) ≡ k + i + 6 = omega arith in
-    let e7 : k + (i + 7) ≡ k + i + 7 = omega arith in
-    rw (drop-drop i k f, drop-drop (i + 2) k f, drop-drop (i + 3) k f, drop-drop (i + 5) k f, drop-drop (i + 6) k f, drop-drop (i + 7) k f, e2, e3, e5, e6, e7)
-
-pub entries_part : (f : List ℕ) (k n i : ℕ) → map_entries (drop k f) i n ≡ map_entries f (k + i) n
-entries_part f k zero i = refl
-entries_part f k (suc n) i =
-    let e : k + (i + 8) ≡ k + i + 8 = omega arith in
-    ap₂ (λ (x : ℕ) (l : List ℕ). x ∷ l) (ap map_entry (map_part f k i)) (entries_part f k n (i + 8) ∙ ap (λ (v : ℕ). map_entries f v n) e)

@@ -3,6 +3,7 @@
 use mathlib.Core.Path.{◌≡◌, refl, sym, ap, ◌∙◌}
 use mathlib.Core.Option.{none, some}
 use mathlib.Core.List.{List, [], ◌∷◌, ◌++◌}
+use Rattle.std.specs.Prelude.{Some, None}
 use Prim.Native.Nat.{ℕ, suc, ◌+◌, ◌<◌, ◌≤◌}
 use native.Mathlib.Omega.{arith}
 use lib.ListN.{length, take, drop, length-append}
@@ -14,20 +15,19 @@ use Rattle.messages.specs.declared.head.Head.TheVariants as head
 use Rattle.messages.specs.declared.system_exclusive.UniversalNonRealTimeMsg.TheVariants.{FileReference}
 use Rattle.messages.specs.declared.file_reference.FileReferenceMsg.TheVariants.{OpenSelectContents}
 use Rattle.messages.specs.declared.file_reference.FileReferenceType.{FileReferenceType}
-use Rattle.messages.specs.declared.file_reference.SelectMap.{SelectMap}
 use Rattle.messages.specs.format.Core.{bad, got}
 use Rattle.messages.specs.format.Tags.{look}
+use Rattle.messages.specs.format.Texts.{read_text}
 use Rattle.messages.specs.Maps.{AnySelect, reference_types, reference_code, reference_size, select_for, select_length}
 use Rattle.messages.specs.Layouts.{form}
 use Rattle.messages.specs.Messages.{plain_answer}
 use Rattle.read_places.specs.Places.{value_at}
-use Rattle.read_places.specs.Found.{Reads}
-use Rattle.read_places.specs.declared.Found.TheVariants as found
+use Rattle.read_places.specs.Found.{Reads, found}
 use Rattle.read_places.proofs.Laws.Numbers.{unsigned_at}
 use Rattle.read_file_reference.specs.Texts.{first_zero}
+use Rattle.read_file_reference.specs.declared.maps.Picked.{Picked}
 use Rattle.read_file_reference.specs.Picked.{Picks}
-use Rattle.read_file_reference.specs.declared.maps.Picked.TheVariants.{Is, Nothing}
-use Rattle.read_file_reference.proofs.Laws.Texts.{url_none, url_long, url_at, url_length}
+use Rattle.read_file_reference.proofs.Laws.Texts.{url_at, url_length}
 
 -- four letters, the URL, 00 and a map
 map_size : (t : FileReferenceType) (u m : List ℕ) → 5 ≤ length (reference_code t ++ ((u ++ (0 ∷ [])) ++ m))
@@ -48,13 +48,10 @@ module _ (f : List ℕ) (s : Seven f) where
     both_type e = rw (unsigned_at f s 2 0 (omega arith), unsigned_at f s 2 2 (omega arith), e)
 
     module _ (t : FileReferenceType) (e : look reference_types (drop 4 f) ≡ got t (drop 8 f)) where
-      pub both_endless : length f ≤ 8 + first_zero (drop 8 f) → (form head.FileReferenceOpenSelect).read f ≡ none
-      both_endless h = rw (unsigned_at f s 2 0 (omega arith), unsigned_at f s 2 2 (omega arith), e, url_none f s 8 most_url h)
+      pub both_endless : read_text most_url (drop 8 f) ≡ bad → (form head.FileReferenceOpenSelect).read f ≡ none
+      both_endless u = rw (unsigned_at f s 2 0 (omega arith), unsigned_at f s 2 2 (omega arith), e, u)
 
       module _ (h : 8 + first_zero (drop 8 f) < length f) where
-        pub both_long : most_url < first_zero (drop 8 f) → (form head.FileReferenceOpenSelect).read f ≡ none
-        both_long g = rw (unsigned_at f s 2 0 (omega arith), unsigned_at f s 2 2 (omega arith), e, url_long f s 8 h most_url g)
-
         module _ (g : first_zero (drop 8 f) ≤ most_url) where
           pub both_none : (select_for t).read (drop (8 + first_zero (drop 8 f) + 1) f) ≡ none → (form head.FileReferenceOpenSelect).read f ≡ none
           both_none x = rw (unsigned_at f s 2 0 (omega arith), unsigned_at f s 2 2 (omega arith), e, url_at f s 8 h most_url g, x)
@@ -87,17 +84,17 @@ module _ (f : List ℕ) (s : Seven f) where
           -- ---- by what was found from j on
 
           module _ (j : ℕ) (q : j ≡ 8 + first_zero (drop 8 f) + 1) where
-            pub found_nothing : Picks (select_for t) Nothing f j → (form head.FileReferenceOpenSelect).read f ≡ none
+            pub found_nothing : Picks (select_for t) None f j → (form head.FileReferenceOpenSelect).read f ≡ none
             found_nothing p = both_none (ap (λ (v : ℕ). (select_for t).read (drop v f)) (sym q) ∙ sym p.says)
 
-            module _ {m : SelectMap} {len i k : ℕ} (p : Picks (select_for t) (Is m len i k) f j) where
-              pub found_unsaid : (value_at 2 f 2 ≡ 5 + first_zero (drop 8 f) + len → ⊥) → (form head.FileReferenceOpenSelect).read f ≡ none
+            module _ {o : Picked} (p : Picks (select_for t) (Some o) f j) where
+              pub found_unsaid : (value_at 2 f 2 ≡ 5 + first_zero (drop 8 f) + o.length → ⊥) → (form head.FileReferenceOpenSelect).read f ≡ none
               found_unsaid u =
                   both_unsaid _ (ap (λ (v : ℕ). (select_for t).read (drop v f)) (sym q) ∙ sym p.says)
                   (λ v. u (v ∙ ap (λ (y : ℕ). 5 + first_zero (drop 8 f) + y) (sym p.part.0)))
 
-              pub found_reads : value_at 2 f 2 ≡ 5 + first_zero (drop 8 f) + len → (l : ℕ) → l ≡ first_zero (drop 8 f)
-                  → Reads head.FileReferenceOpenSelect (found.Is (FileReference (OpenSelectContents (value_at 2 f 0) t m)) 8 l i k) f
+              pub found_reads : value_at 2 f 2 ≡ 5 + first_zero (drop 8 f) + o.length → (l : ℕ) → l ≡ first_zero (drop 8 f)
+                  → Reads head.FileReferenceOpenSelect (Some (found (FileReference (OpenSelectContents (value_at 2 f 0) t o.map)) 8 l o.at o.count)) f
               found_reads v l z =
                   let r = both_reads _ (ap (λ (v : ℕ). (select_for t).read (drop v f)) (sym q) ∙ sym p.says) (v ∙ ap (λ (y : ℕ). 5 + first_zero (drop 8 f) + y) p.part.0) in
                   rw z

@@ -4,6 +4,7 @@ use mathlib.Core.Path.{◌≡◌, refl, sym, ap, ◌∙◌}
 use mathlib.Core.Bool.{Bool, true, false}
 use mathlib.Core.Option.{none, some}
 use mathlib.Core.List.{List, [], ◌∷◌, map}
+use Rattle.std.specs.Prelude.{Some, None}
 use Prim.Native.Nat.{ℕ, zero, suc, ◌+◌, ◌*◌, ◌-◌, ◌<◌, ◌≤◌}
 use native.Mathlib.Omega.{arith}
 use native.Mathlib.Numerals.{add-one}
@@ -24,8 +25,7 @@ use Rattle.read_places.proofs.Laws.Numbers.{seven_get}
 use Rattle.read_places.proofs.Laws.Answers.{none_left}
 use Rattle.read_places.proofs.Laws.Lists.{entries_length}
 use Rattle.read_file_reference.specs.Maps.{wav_at, flags_fit}
-use Rattle.read_file_reference.specs.Picked.{Picks}
-use Rattle.read_file_reference.specs.declared.maps.Picked.TheVariants.{Is, Nothing}
+use Rattle.read_file_reference.specs.Picked.{Picks, picked}
 use Rattle.read_file_reference.proofs.Laws.Maps.{maps_read, wav_read}
 
 -- a list of maps is a number and eight bytes for each
@@ -52,7 +52,7 @@ module _ (f : List ℕ) (s : Seven f) (i : ℕ) where
 
     -- the offset was found
     pub bank_offset_found : {o : ℕ} {b : Bool} → got (record { bank_offset = o; drum = b }) (drop (i + 7) f) ≡ offset.read (drop i f)
-        → Picks bank_only (Is (SoundFileBankOffset o b) 7 0 0) f i
+        → Picks bank_only (Some (picked (SoundFileBankOffset o b) 7 0 0)) f i
     bank_offset_found e = record { says = sym (bank_offset_is _ e); part = (refl, omega arith, omega arith, omega arith, refl) }
 
     pub bank_offset_not : bad ≡ offset.read (drop i f) → bank_only.read (drop i f) ≡ none
@@ -97,7 +97,7 @@ module _ (f : List ℕ) (s : Seven f) (i : ℕ) where
 
     -- the list was found: k maps from i + 1 on
     pub bank_maps_found : (k : ℕ) → k ≡ get_or f i 0 → length f - i ≡ 1 + 8 * k → flags_fit f (i + 1) k ≡ true
-        → Picks bank_only (Is SoundFile (length f - i) (i + 1) k) f i
+        → Picks bank_only (Some (picked SoundFile (length f - i) (i + 1) k)) f i
     bank_maps_found k e n t =
         let x = ap (λ (v : ℕ). 1 + 8 * v) e in
         let r = bank_maps (n ∙ x) (sym (ap (λ (v : ℕ). flags_fit f (i + 1) v) e) ∙ t)
@@ -117,7 +117,7 @@ module _ (f : List ℕ) (s : Seven f) (i : ℕ) where
   pub wav_is : length f ≡ i + 9 → wav_only.read (drop i f) ≡ some (of_wav (only_wav_map (wav_at f i)))
   wav_is n = rw (wav_read f s i (omega arith), none_left f (i + 9) n)
 
-  pub wav_found : length f ≡ i + 9 → Picks wav_only (Is (WAV (wav_at f i)) 9 0 0) f i
+  pub wav_found : length f ≡ i + 9 → Picks wav_only (Some (picked (WAV (wav_at f i)) 9 0 0)) f i
   wav_found n = record { says = sym (wav_is n); part = (refl, omega arith, omega arith, omega arith, refl) }
 
   pub wav_other : (length f - i ≡ 9 → ⊥) → (length f - i ≡ 16 → ⊥) → wav_only.read (drop i f) ≡ none
@@ -132,12 +132,12 @@ module _ (f : List ℕ) (s : Seven f) (i : ℕ) where
         rw (wav_length (λ x. omega arith), wav_read f s i (omega arith), ← e, none_left f (i + 9 + 7) (sym d))
 
     pub wav_offset_found : {o : ℕ} {b : Bool} → got (record { bank_offset = o; drum = b }) (drop (i + 9 + 7) f) ≡ offset.read (drop (i + 9) f)
-        → Picks wav_only (Is (WAVBankOffset (wav_at f i) o b) 15 0 0) f i
+        → Picks wav_only (Some (picked (WAVBankOffset (wav_at f i) o b) 15 0 0)) f i
     wav_offset_found e = record { says = sym (wav_offset_is _ e); part = (refl, omega arith, omega arith, omega arith, refl) }
 
     pub wav_offset_not : bad ≡ offset.read (drop (i + 9) f) → wav_only.read (drop i f) ≡ none
     wav_offset_not e = rw (wav_length (λ x. omega arith), wav_read f s i (omega arith), ← e)
 
 -- nothing was found
-pub picks_none : (p : Whole AnySelect) (f : List ℕ) (i : ℕ) → p.read (drop i f) ≡ none → Picks p Nothing f i
+pub picks_none : (p : Whole AnySelect) (f : List ℕ) (i : ℕ) → p.read (drop i f) ≡ none → Picks p None f i
 picks_none p f i e = record { says = sym e; part = tt }

@@ -3,6 +3,7 @@
 use mathlib.Core.Path.{◌≡◌, refl, sym, ap, ◌∙◌}
 use mathlib.Core.Option.{Option, none, some}
 use mathlib.Core.List.{List, map}
+use Rattle.std.specs.Prelude.{Some, None}
 use Prim.Native.Nat.{ℕ, suc, ◌^◌, ◌<◌, ◌≤◌}
 use native.Mathlib.Omega.{arith}
 use lib.ListN.{length, drop}
@@ -30,11 +31,10 @@ use Rattle.messages.specs.Layouts.{form}
 use Rattle.messages.specs.Messages.{make, given, plain_answer}
 use Rattle.messages.specs.MessageOf.{head_select, fields_select, any_select}
 use Rattle.read_places.specs.Places.{value_at}
-use Rattle.read_places.specs.Found.{entries_select, Reads}
-use Rattle.read_places.specs.declared.Found.TheVariants as found
+use Rattle.read_places.specs.Found.{entries_select, Reads, found}
 use Rattle.read_places.proofs.Laws.Numbers.{unsigned_at}
+use Rattle.read_file_reference.specs.declared.maps.Picked.{Picked}
 use Rattle.read_file_reference.specs.Picked.{Picks}
-use Rattle.read_file_reference.specs.declared.maps.Picked.TheVariants.{Is, Nothing}
 
 -- ---- a context, a length, and what the length counts
 
@@ -111,41 +111,41 @@ wav_message d c (WAVBankOffset m o b) l y e =
 -- ---- by what was found
 
 module _ (f : List ℕ) (s : Seven f) (n : 4 ≤ length f) where
-  pub bank_nothing : Picks bank_only Nothing f 4 → (form head.SelectSoundFile).read f ≡ none
+  pub bank_nothing : Picks bank_only None f 4 → (form head.SelectSoundFile).read f ≡ none
   bank_nothing p = select_none bank_length bank_select bank_short f s n (bank_none (bank_select.read (drop 4 f)) (sym p.says))
 
-  pub wav_nothing : Picks wav_only Nothing f 4 → (form head.SelectWAV).read f ≡ none
+  pub wav_nothing : Picks wav_only None f 4 → (form head.SelectWAV).read f ≡ none
   wav_nothing p = select_none wav_length wav_select wav_short f s n (wav_none (wav_select.read (drop 4 f)) (sym p.says))
 
-  module _ {m : SelectMap} {len i k : ℕ} where
-    pub bank_unsaid : Picks bank_only (Is m len i k) f 4 → (value_at 2 f 2 ≡ len → ⊥) → (form head.SelectSoundFile).read f ≡ none
+  module _ {q : Picked} where
+    pub bank_unsaid : Picks bank_only (Some q) f 4 → (value_at 2 f 2 ≡ q.length → ⊥) → (form head.SelectSoundFile).read f ≡ none
     bank_unsaid p u =
         bank_some (bank_select.read (drop 4 f)) (sym p.says) λ y e z.
         select_other bank_length bank_select bank_short f s n y e (λ v. u (v ∙ ap select_length z ∙ sym p.part.0))
 
-    pub wav_unsaid : Picks wav_only (Is m len i k) f 4 → (value_at 2 f 2 ≡ len → ⊥) → (form head.SelectWAV).read f ≡ none
+    pub wav_unsaid : Picks wav_only (Some q) f 4 → (value_at 2 f 2 ≡ q.length → ⊥) → (form head.SelectWAV).read f ≡ none
     wav_unsaid p u =
         wav_some (wav_select.read (drop 4 f)) (sym p.says) λ y e z.
         select_other wav_length wav_select wav_short f s n y e (λ v. u (v ∙ ap select_length z ∙ sym p.part.0))
 
-    pub bank_found : Picks bank_only (Is m len i k) f 4 → value_at 2 f 2 ≡ len
-        → Reads head.SelectSoundFile (found.Is (FileReference (SelectContents (value_at 2 f 0) m)) 0 0 i k) f
+    pub bank_found : Picks bank_only (Some q) f 4 → value_at 2 f 2 ≡ q.length
+        → Reads head.SelectSoundFile (Some (found (FileReference (SelectContents (value_at 2 f 0) q.map)) 0 0 q.at q.count)) f
     bank_found p v =
         bank_some (bank_select.read (drop 4 f)) (sym p.says) λ y e z.
         let r = select_reads bank_length bank_select bank_short f s n y e (v ∙ p.part.0 ∙ ap select_length (sym z)) in
         record {
-          says = λ d. ap given (bank_message d (value_at 2 f 0) m (entries_select m f i k) y z) ∙ ap (plain_answer d head.SelectSoundFile) (sym r);
+          says = λ d. ap given (bank_message d (value_at 2 f 0) q.map (entries_select q.map f q.at q.count) y z) ∙ ap (plain_answer d head.SelectSoundFile) (sym r);
           part = omega (arith, p.part);
           start = (refl, refl);
         }
 
-    pub wav_found : Picks wav_only (Is m len i k) f 4 → value_at 2 f 2 ≡ len
-        → Reads head.SelectWAV (found.Is (FileReference (SelectContents (value_at 2 f 0) m)) 0 0 i k) f
+    pub wav_found : Picks wav_only (Some q) f 4 → value_at 2 f 2 ≡ q.length
+        → Reads head.SelectWAV (Some (found (FileReference (SelectContents (value_at 2 f 0) q.map)) 0 0 q.at q.count)) f
     wav_found p v =
         wav_some (wav_select.read (drop 4 f)) (sym p.says) λ y e z.
         let r = select_reads wav_length wav_select wav_short f s n y e (v ∙ p.part.0 ∙ ap select_length (sym z)) in
         record {
-          says = λ d. ap given (wav_message d (value_at 2 f 0) m (entries_select m f i k) y z) ∙ ap (plain_answer d head.SelectWAV) (sym r);
+          says = λ d. ap given (wav_message d (value_at 2 f 0) q.map (entries_select q.map f q.at q.count) y z) ∙ ap (plain_answer d head.SelectWAV) (sym r);
           part = omega (arith, p.part);
           start = (refl, refl);
         }

@@ -1,42 +1,46 @@
 -- Four letters, a file type and a URL, by place.
 -- Assumes nothing.
-use mathlib.Core.Path.{◌≡◌, refl, ap, ◌∙◌}
+use mathlib.Core.Path.{◌≡◌, refl, sym, ap, ◌∙◌}
+use mathlib.Core.Bool.{Bool, true, false, ◌&&◌, cond}
+use mathlib.Core.Option as maybe
 use mathlib.Core.Option.{some}
 use mathlib.Core.List.{List, [], ◌∷◌}
-use Prim.Native.Nat.{ℕ, zero, suc, ◌+◌, ◌<◌, ◌≤◌}
+use Prim.Native.Nat.{ℕ, zero, suc, ◌+◌, ◌-◌, ◌<◌, ◌≤◌}
 use native.Mathlib.Omega.{arith}
-use native.Mathlib.Numerals.{add-one}
-use lib.Dec.{eqb}
-use lib.ListN.{length, take, drop, get_or, length-drop, drop_of_length-le}
-use lib.Seq.{drop-cons, drop-drop, length-take-le}
-use borrow.Author.Tests.{lt-ltb, le-leb, lt-leb}
+use lib.Dec.{eqb, ltb}
+use lib.ListN.{length, take, drop, length-drop}
+use lib.Pointwise.{pointwise}
+use lib.Seq.{drop-drop, length-take-le}
+use borrow.Author.Tests.{lt-ltb, le-leb, lt-leb, ltb-true, ltb-false, ne_eqb}
+use Rattle.std.specs.Prelude.{◌==◌, Option, Some, None, position}
+use Rattle.std.specs.List.{position_or_len}
+use Rattle.std.proofs.lemmas.Option.{none-some, same_Some}
 use Rattle.util.specs.Groups.{Seven}
+use Rattle.util.specs.Limits.{most_url}
 use Rattle.util.proofs.Laws.Groups.{seven_drop}
+use Rattle.util.proofs.Laws.Splice.{tail_drop}
 use Rattle.util.specs.Options.{only_if}
 use Rattle.messages.specs.format.Core.{bad, got}
 use Rattle.messages.specs.format.Sequence.{strip}
 use Rattle.messages.specs.format.Texts.{up_to_zero, read_text}
-use Rattle.read_file_reference.specs.Texts.{first_zero}
+use Rattle.read_file_reference.specs.Texts.{first_zero, Ends}
 
--- four bytes from i on, tested one by one
-pub strip_at : (f : List ℕ) (i a b c d : ℕ) → i + 4 ≤ length f
-    → strip (a ∷ b ∷ c ∷ d ∷ []) (drop i f)
-    ≡ only_if (eqb a (get_or f i 0)) (only_if (eqb b (get_or f (i + 1) 0)) (only_if (eqb c (get_or f (i + 2) 0)) (only_if (eqb d (get_or f (i + 3) 0)) (some (drop (i + 4) f)))))
-strip_at f i a b c d h =
-    let e1 : i + 1 ≡ suc i = add-one i in
-    let e2 : i + 2 ≡ suc (suc i) = omega arith in
-    let e3 : i + 3 ≡ suc (suc (suc i)) = omega arith in
-    let e4 : i + 4 ≡ suc (suc (suc (suc i))) = omega arith in
-    rw (
-      e1,
-      e2,
-      e3,
-      e4,
-      drop-cons f i 0 (omega arith),
-      drop-cons f (suc i) 0 (omega arith),
-      drop-cons f (suc (suc i)) 0 (omega arith),
-      drop-cons f (suc (suc (suc i))) 0 (omega arith),
-    )
+-- a list begins with these letters just where they are stripped from it
+and_also : {A : Type 0} (t u : Bool) (o : maybe.Option A) → only_if (t && u) o ≡ only_if t (only_if u o)
+and_also true u o = refl
+and_also false u o = refl
+
+pub starts_strip : (p l : List ℕ) → only_if (pointwise eqb p (take (length p) l)) (some (drop (length p) l)) ≡ strip p l
+starts_strip [] l = refl
+starts_strip (c ∷ p) [] = refl
+starts_strip (c ∷ p) (b ∷ l) = and_also (eqb c b) (pointwise eqb p (take (length p) l)) (some (drop (length p) l)) ∙ ap (only_if (eqb c b)) (starts_strip p l)
+
+pub starts_at : (f p : List ℕ) (i : ℕ) (r : Bool) → r ≡ pointwise eqb p (take (length p) (take (length f - i) (drop i f)))
+    → only_if r (some (drop (i + length p) f)) ≡ strip p (drop i f)
+starts_at f p i r e =
+    ap (λ (t : Bool). only_if t (some (drop (i + length p) f))) (e ∙ ap (λ (l : List ℕ). pointwise eqb p (take (length p) l)) (tail_drop f i))
+    ∙ ap (λ (l : List ℕ). only_if (pointwise eqb p (take (length p) (drop i f))) (some l)) (sym (drop-drop (length p) i f))
+    ∙ starts_strip p (drop i f)
 
 -- ---- the first 00
 
@@ -45,21 +49,27 @@ zero_most [] = omega arith
 zero_most (zero ∷ l) = omega arith
 zero_most (suc b ∷ l) = omega (arith, zero_most l)
 
--- a byte that is no 00
-not_zero : (b : ℕ) (l : List ℕ) → (b ≡ 0 → ⊥) → first_zero (b ∷ l) ≡ suc (first_zero l)
-not_zero zero l k = absurd (k refl)
-not_zero (suc b) l k = refl
+-- the place of the first 00
+pub zero_position : (l : List ℕ) → position_or_len (λ b. b == 0) l ≡ first_zero l
+zero_position [] = refl
+zero_position (zero ∷ l) = refl
+zero_position (suc b ∷ l) = rw (ne_eqb (suc b) 0 (λ z. omega arith)) (omega (arith, zero_position l))
 
-pub zero_turn : (f : List ℕ) (i : ℕ) → i < length f → (get_or f i 0 ≡ 0 → ⊥) → i + 1 + first_zero (drop (i + 1) f) ≡ i + first_zero (drop i f)
-zero_turn f i h k =
-    let e : first_zero (drop i f) ≡ suc (first_zero (drop (i + 1) f)) = rw (add-one i, drop-cons f i 0 h) (not_zero (get_or f i 0) (drop (suc i) f) k) in
-    omega arith
+found_by : (k n m : ℕ) (t : Bool) → ltb k m ≡ t → cond t (Some k) None ≡ Some n → (n ≡ k) × (k < m)
+found_by k n m true h e = (sym (same_Some k n e), ltb-true k m h)
+found_by k n m false h e = absurd (none-some n e)
 
-pub zero_found : (f : List ℕ) (i : ℕ) → i < length f → get_or f i 0 ≡ 0 → first_zero (drop i f) ≡ 0
-zero_found f i h e = rw (drop-cons f i 0 h, e)
+none_by : (k m : ℕ) (t : Bool) → ltb k m ≡ t → cond t (Some k) None ≡ None → m ≤ k
+none_by k m true h e = absurd (none-some k (sym e))
+none_by k m false h e = ltb-false k m h
 
-pub zero_done : (f : List ℕ) (i : ℕ) → length f ≤ i → first_zero (drop i f) ≡ 0
-zero_done f i h = ap first_zero (drop_of_length-le f {i = i} h)
+pub zero_found : (l : List ℕ) (n : ℕ) → position (λ b. b == 0) l ≡ Some n → (n ≡ first_zero l) × (first_zero l < length l)
+zero_found l n e =
+    let w = found_by (position_or_len (λ b. b == 0) l) n (length l) _ refl e in
+    (w.0 ∙ zero_position l, omega (arith, w.1, zero_position l))
+
+pub zero_none : (l : List ℕ) → position (λ b. b == 0) l ≡ None → length l ≤ first_zero l
+zero_none l e = omega (arith, none_by (position_or_len (λ b. b == 0) l) (length l) _ refl e, zero_position l)
 
 -- ---- a text up to 00
 
@@ -95,3 +105,26 @@ module _ (f : List ℕ) (s : Seven f) (i : ℕ) where
     pub url_at : (n : ℕ) → first_zero (drop i f) ≤ n
         → read_text n (drop i f) ≡ got (take (first_zero (drop i f)) (drop i f)) (drop (i + first_zero (drop i f) + 1) f)
     url_at n g = rw (text_at, url_length (drop i f), le-leb _ _ g)
+
+-- ---- the URL from i on, by the place of the first 00 behind i
+
+module _ (f : List ℕ) (i : ℕ) where
+  abbrev pub place : Option ℕ
+  place = position (λ b. b == 0) (take (length f - i) (drop i f))
+
+  place_drop : place ≡ position (λ b. b == 0) (drop i f)
+  place_drop = ap (position (λ b. b == 0)) (tail_drop f i)
+
+  pub url_ends : (n : ℕ) → Some n ≡ place → n ≤ most_url → Ends (Some n) f i
+  url_ends n e g =
+      let w = zero_found (drop i f) n (sym (e ∙ place_drop)) in
+      (w.0, omega (arith, w.0, w.1, length-drop i f), g)
+
+  module _ (s : Seven f) where
+    pub url_endless : None ≡ place → Ends None f i
+    url_endless e = url_none f s i most_url (omega (arith, zero_none (drop i f) (sym (e ∙ place_drop)), length-drop i f))
+
+    pub url_over : (n : ℕ) → Some n ≡ place → most_url < n → Ends None f i
+    url_over n e g =
+        let w = zero_found (drop i f) n (sym (e ∙ place_drop)) in
+        url_long f s i (omega (arith, w.1, length-drop i f)) most_url (omega (arith, w.0))

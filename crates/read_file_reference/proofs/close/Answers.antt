@@ -8,25 +8,28 @@ use Rattle.read_places.proofs.Laws.Answers.{reads_none}
 use Rattle.read_file_reference.proofs.Laws.Heads.{close_size, close_not, close_reads}
 use Rattle.read_file_reference.proofs.close.Goals as goal
 
-pub returns-then-f-ne4 : goal.returns-then-f-ne4
-returns-then-f-ne4 c =
-    reads_none head.FileReferenceClose _ (close_size c.args.f.now c.requires c.if-f-ne4.true)
+pub returns-then-len-ne4 : goal.returns-then-len-ne4
+returns-then-len-ne4 c =
+    let l = c.len.ensures in
+    reads_none head.FileReferenceClose _ (close_size c.args.f.now l.seven (λ e. c.if-len-ne4.true (l.size ∙ e)))
 
 pub returns-then-at-ne0 : goal.returns-then-at-ne0
 returns-then-at-ne0 c =
-    reads_none head.FileReferenceClose _ (close_not c.args.f.now c.requires (λ a b. c.if-at-ne0.true (c.at.ensures ∙ a)))
+    reads_none head.FileReferenceClose _ (close_not c.args.f.now c.len.ensures.seven (λ a b. c.if-at-ne0.true (c.at.ensures ∙ a)))
 
 pub returns-then-at-ne0-2 : goal.returns-then-at-ne0-2
 returns-then-at-ne0-2 c =
-    reads_none head.FileReferenceClose _ (close_not c.args.f.now c.requires (λ a b. c.if-at-ne0-2.true (c.at-2.ensures ∙ b)))
+    reads_none head.FileReferenceClose _ (close_not c.args.f.now c.len.ensures.seven (λ a b. c.if-at-ne0-2.true (c.at-2.ensures ∙ b)))
 
 pub returns : goal.returns
 returns c =
     let a = sym c.at.ensures ∙ c.if-at-ne0.false in
     let b = sym c.at-2.ensures ∙ c.if-at-ne0-2.false in
-    let r = close_reads c.args.f.now c.requires c.if-f-ne4.false a b in
+    let l = c.len.ensures in
+    let r = close_reads c.args.f.now l.seven (sym l.size ∙ c.if-len-ne4.false) a b in
+    rw (c.numbers.ensures, c.u14_at.ensures)
     record {
-      says = λ d. rw c.u14_at.ensures (ap (plain_answer d head.FileReferenceClose) (sym r));
+      says = λ d. ap (plain_answer d head.FileReferenceClose) (sym r);
       part = omega arith;
       start = (refl, refl);
     }

@@ -1,28 +1,22 @@
 -- `read_file_reference::open` meets its contract, by the length and the type.
 -- Assumes nothing.
-use mathlib.Core.Path.{sym, ap, ◌∙◌}
+use mathlib.Core.Path.{sym}
 use native.Mathlib.Omega.{arith}
-use lib.ListN.{drop}
 use Rattle.messages.specs.declared.head.Head.TheVariants as head
 use Rattle.read_places.proofs.Laws.Answers.{reads_none}
-use Rattle.read_file_reference.specs.Texts.{type_got}
-use Rattle.read_file_reference.specs.declared.texts.TypeFound.{TypeFound}
 use Rattle.read_file_reference.proofs.Laws.Heads.{open_short, open_type}
 use Rattle.read_file_reference.proofs.open.Goals as goal
 
-pub returns-then-f-lt9 : goal.returns-then-f-lt9
-returns-then-f-lt9 c =
-    let f = c.args.f.now in
-    reads_none head.FileReferenceOpen _ (open_short f c.requires c.if-f-lt9.true)
+pub returns-then-len-lt9 : goal.returns-then-len-lt9
+returns-then-len-lt9 c =
+    let l = c.len.ensures in
+    reads_none head.FileReferenceOpen _ (open_short c.args.f.now l.seven (omega (arith, l.size, c.if-len-lt9.true)))
+
+pub returns-in_err-file_type : goal.returns-in_err-file_type
+returns-in_err-file_type c =
+    let l = c.len.ensures in
+    rw c.from_residual.ensures
+    (reads_none head.FileReferenceOpen _ (open_type c.args.f.now l.seven (omega (arith, l.size, c.if-len-lt9.false)) (sym c.in_err-file_type.ensures)))
 
 pub open_typed-requires : goal.open_typed-requires
-open_typed-requires c =
-    let f = c.args.f.now in
-    let e = sym c.type_at.ensures ∙ ap (λ (q : TypeFound). type_got q (drop 8 f)) c.in-Is.is in
-    (c.requires, omega (arith, c.if-f-lt9.false), e)
-
-pub returns-in-Nothing : goal.returns-in-Nothing
-returns-in-Nothing c =
-    let f = c.args.f.now in
-    let e = sym c.type_at.ensures ∙ ap (λ (q : TypeFound). type_got q (drop 8 f)) c.in-Nothing.is in
-    reads_none head.FileReferenceOpen _ (open_type f c.requires (omega (arith, c.if-f-lt9.false)) e)
+open_typed-requires c = (omega (arith, c.len.ensures.size, c.if-len-lt9.false), sym c.in_ok-file_type.ensures)

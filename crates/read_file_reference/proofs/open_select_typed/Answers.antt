@@ -1,72 +1,43 @@
 -- `read_file_reference::open_select_typed` meets its contract: the map follows the URL.
 -- Assumes nothing.
-use mathlib.Core.Path.{subst}
-use Prim.Native.Nat.{◌+◌, ◌-◌}
+use mathlib.Core.Path.{◌≡◌}
+use Prim.Native.Nat.{◌+◌}
 use native.Mathlib.Omega.{arith}
+use lib.ListN.{drop}
 use Rattle.messages.specs.declared.head.Head.TheVariants as head
-use Rattle.messages.specs.Maps.{select_for}
 use Rattle.read_places.proofs.Laws.Answers.{reads_none}
-use Rattle.read_file_reference.specs.Picked.{Picks}
-use Rattle.read_file_reference.specs.declared.maps.Picked.{Picked}
-use Rattle.read_file_reference.proofs.Laws.OpenSelects.{both_endless, both_long, found_nothing, found_unsaid, found_reads}
+use Rattle.read_file_reference.specs.Texts.{first_zero}
+use Rattle.read_file_reference.proofs.Laws.OpenSelects.{both_endless, found_nothing, found_unsaid, found_reads}
 use Rattle.read_file_reference.proofs.open_select_typed.Goals as goal
 
-pub returns-then-f-end : goal.returns-then-f-end
-returns-then-f-end c =
-    let f = c.args.f.now in
-    let e = c.url_end-end.ensures in
-    reads_none head.FileReferenceOpenSelect _ (both_endless f c.requires.0 c.requires.1 c.args.file_type c.requires.2 (omega (arith, c.if-f-end.true)))
+pub returns-in_err-url : goal.returns-in_err-url
+returns-in_err-url c =
+    let u = c.in_err-url.ensures in
+    rw c.from_residual.ensures (reads_none head.FileReferenceOpenSelect _ (both_endless c.args.f.now u.0 c.requires.0 c.args.file_type c.requires.1 u.1))
 
-pub returns-then-end-gt-LAST_END : goal.returns-then-end-gt-LAST_END
-returns-then-end-gt-LAST_END c =
+pub returns-in_err-picked : goal.returns-in_err-picked
+returns-in_err-picked c =
     let f = c.args.f.now in
-    let e = c.url_end-end.ensures in
-    reads_none head.FileReferenceOpenSelect _ (both_long f c.requires.0 c.requires.1 c.args.file_type c.requires.2 (omega (arith, c.if-f-end.false)) (omega (arith, c.if-end-gt-LAST_END.true)))
+    let u = c.in_ok-url.ensures in
+    let e : c.in_ok-url.url ≡ first_zero (drop 8 f) = u.1.0 in
+    rw c.from_residual-in_err-picked.ensures
+    (reads_none head.FileReferenceOpenSelect _
+    (found_nothing f u.0 c.requires.0 c.args.file_type c.requires.1 (omega (arith, u.1.1)) (omega (arith, u.1.2)) (9 + c.in_ok-url.url) (omega arith) c.in_err-picked.ensures))
 
-pub overflow_add-end-in-Is : goal.overflow_add-end-in-Is
-overflow_add-end-in-Is c =
+pub returns-then-said-url : goal.returns-then-said-url
+returns-then-said-url c =
     let f = c.args.f.now in
-    let t = c.args.file_type in
-    let e = c.url_end-end.ensures in
-    let j = c.url_end-end.result + 1 in
-    let p = subst (λ (q : Picked). Picks (select_for t) q f j) c.in-Is.is c.map_for.ensures in
-    omega (arith, p.part.1, c.if-end-gt-LAST_END.false)
-
-pub returns-then-said-end : goal.returns-then-said-end
-returns-then-said-end c =
-    let f = c.args.f.now in
-    let t = c.args.file_type in
-    let e = c.url_end-end.ensures in
-    let j = c.url_end-end.result + 1 in
-    let p = subst (λ (q : Picked). Picks (select_for t) q f j) c.in-Is.is c.map_for.ensures in
-    let h = c.if-f-end.false in
-    let g = c.if-end-gt-LAST_END.false in
-    let v = c.said.ensures in
+    let u = c.in_ok-url.ensures in
+    let e : c.in_ok-url.url ≡ first_zero (drop 8 f) = u.1.0 in
     reads_none head.FileReferenceOpenSelect _
-    (found_unsaid f c.requires.0 c.requires.1 t c.requires.2 (omega arith) (omega arith) j (omega arith) p (λ x. c.if-said-end.true (omega arith)))
+    (found_unsaid f u.0 c.requires.0 c.args.file_type c.requires.1 (omega (arith, u.1.1)) (omega (arith, u.1.2)) (9 + c.in_ok-url.url) (omega arith) c.in_ok-picked.ensures
+    (λ x. c.if-said-url.true (omega (arith, c.said.ensures.1))))
 
-pub returns-else-said-end : goal.returns-else-said-end
-returns-else-said-end c =
+pub returns : goal.returns
+returns c =
     let f = c.args.f.now in
-    let t = c.args.file_type in
-    let e = c.url_end-end.ensures in
-    let j = c.url_end-end.result + 1 in
-    let p = subst (λ (q : Picked). Picks (select_for t) q f j) c.in-Is.is c.map_for.ensures in
-    let h = c.if-f-end.false in
-    let g = c.if-end-gt-LAST_END.false in
-    let v = c.said.ensures in
-    let w = c.if-said-end.false in
-    let l = c.url_end-end.result - 8 in
+    let u = c.in_ok-url.ensures in
+    let e : c.in_ok-url.url ≡ first_zero (drop 8 f) = u.1.0 in
     rw c.u14_at.ensures
-    (found_reads f c.requires.0 c.requires.1 t c.requires.2 (omega arith) (omega arith) j (omega arith) p (omega arith) l (omega arith))
-
-pub returns-in-Nothing : goal.returns-in-Nothing
-returns-in-Nothing c =
-    let f = c.args.f.now in
-    let t = c.args.file_type in
-    let e = c.url_end-end.ensures in
-    let j = c.url_end-end.result + 1 in
-    let p = subst (λ (q : Picked). Picks (select_for t) q f j) c.in-Nothing.is c.map_for.ensures in
-    let h = c.if-f-end.false in
-    let g = c.if-end-gt-LAST_END.false in
-    reads_none head.FileReferenceOpenSelect _ (found_nothing f c.requires.0 c.requires.1 t c.requires.2 (omega arith) (omega arith) j (omega arith) p)
+    (found_reads f u.0 c.requires.0 c.args.file_type c.requires.1 (omega (arith, u.1.1)) (omega (arith, u.1.2)) (9 + c.in_ok-url.url) (omega arith) c.in_ok-picked.ensures
+    (omega (arith, c.said.ensures.1, c.if-said-url.false)) c.in_ok-url.url e)

@@ -6,6 +6,7 @@ use Prim.Native.Nat.{ℕ}
 use Rattle.messages.specs.declared.head.Head.{Head}
 use Rattle.messages.specs.Layouts.{form}
 use Rattle.read_places.specs.Found.{is_read}
+use Rattle.read_places.proofs.Laws.Answers.{reads_some}
 use Rattle.read_heads.proofs.is_valid.Goals as goal
 
 read_as : {h g : Head} → h ≡ g → (f : List ℕ) → is_read ((form g).read f) ≡ is_read ((form h).read f)
@@ -16,3 +17,6 @@ returns-in-SampleDumpPacket c = c.is_packet.ensures ∙ read_as c.in-SampleDumpP
 
 pub returns-in-KeyBasedTuningDump : goal.returns-in-KeyBasedTuningDump
 returns-in-KeyBasedTuningDump c = c.is_key_dump.ensures ∙ read_as c.in-KeyBasedTuningDump.is c.args.f.now
+
+pub returns-in_default : goal.returns-in_default
+returns-in_default c = rw c.is_some.ensures (reads_some c.args.h c.args.f.now c.fields_of.result c.fields_of.ensures)

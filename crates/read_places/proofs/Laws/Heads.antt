@@ -3,6 +3,7 @@
 use mathlib.Core.Path.{◌≡◌, refl, sym, ap, ◌∙◌}
 use mathlib.Core.Bool.{Bool, true, false}
 use mathlib.Core.Option.{some}
+use Rattle.std.specs.Prelude.{Option, Some, None}
 use mathlib.Core.List.{List, ◌∷◌}
 use Prim.Native.Nat.{ℕ, ◌≤◌}
 use native.Mathlib.Omega.{arith}
@@ -17,15 +18,13 @@ use Rattle.messages.specs.declared.file_reference.Kind.{Kind}
 use Rattle.messages.specs.declared.file_reference.Kind.TheVariants.{Bank, WAV}
 use Rattle.messages.specs.format.Core.{Got, bad, got}
 use Rattle.messages.specs.format.Tags.{or_else, allow, find}
-use Rattle.messages.specs.Layouts.{code, summed, reads, all_heads}
-use Rattle.read_places.specs.declared.heads.HeadFound.{HeadFound}
-use Rattle.read_places.specs.declared.heads.HeadFound.TheVariants.{Known, Unknown}
-use Rattle.read_places.specs.Heads.{known, select_head, head_05, head_06, head_07, head_08, head_09, head_0b, head_at}
+use Rattle.messages.specs.Layouts.{code, reads, all_heads}
+use Rattle.read_places.specs.Heads.{head_05, head_06, head_07, head_08, head_09, head_0b, head_at}
 
 -- the head, and what follows it
-abbrev pub got_head : HeadFound → List ℕ → Got Head
-got_head (Known h n s) l = got h (drop n l)
-got_head Unknown l = bad
+abbrev pub got_head : Option Head → List ℕ → Got Head
+got_head (Some h) l = got h (drop (length (code h)) l)
+got_head None l = bad
 
 -- ---- tests of a byte
 
@@ -41,13 +40,13 @@ eqb_sym a b = by_byte a b (λ e. rw (eq-eqb a b e, eq-eqb b a (sym e))) (λ n. r
 
 -- ---- one head more
 
-step : (x : Bool) (t : Head) (s l : List ℕ) (g : Got Head) (p : HeadFound) → s ≡ drop (length (code t)) l → g ≡ got_head p l
-    → or_else t (allow (only_if x (some s)) true) g ≡ got_head (pick x (known t) p) l
+step : (x : Bool) (t : Head) (s l : List ℕ) (g : Got Head) (p : Option Head) → s ≡ drop (length (code t)) l → g ≡ got_head p l
+    → or_else t (allow (only_if x (some s)) true) g ≡ got_head (pick x (Some t) p) l
 step true t s l g p d e = ap (got t) d
 step false t s l g p d e = e
 
-one : (c b : ℕ) (t : Head) (s l : List ℕ) (g : Got Head) (p : HeadFound) → s ≡ drop (length (code t)) l → g ≡ got_head p l
-    → or_else t (allow (only_if (eqb c b) (some s)) true) g ≡ got_head (pick (eqb b c) (known t) p) l
+one : (c b : ℕ) (t : Head) (s l : List ℕ) (g : Got Head) (p : Option Head) → s ≡ drop (length (code t)) l → g ≡ got_head p l
+    → or_else t (allow (only_if (eqb c b) (some s)) true) g ≡ got_head (pick (eqb b c) (Some t) p) l
 one c b t s l g p d e = rw (eqb_sym c b) (step (eqb b c) t s l g p d e)
 
 module _ (k : Kind) (b : ℕ) (r : List ℕ) where
@@ -58,27 +57,27 @@ module _ (k : Kind) (b : ℕ) (r : List ℕ) where
   find_05 =
       one 1 b head.LoopPointTransmission r _ _ _ refl (one 2 b head.LoopPointsRequest r _ _ _ refl (one 3 b head.SampleName r _ _ _ refl
       (one 4 b head.SampleNameRequest r _ _ _ refl (one 5 b head.ExtendedHeader r _ _ _ refl (one 6 b head.ExtendedLoopPointTransmission r _ _ _ refl
-      (one 7 b head.ExtendedLoopPointsRequest r _ _ Unknown refl refl))))))
+      (one 7 b head.ExtendedLoopPointsRequest r _ _ None refl refl))))))
 
   find_06 : found 0x06 ≡ got_head (head_06 b) (0x06 ∷ b ∷ r)
-  find_06 = one 1 b head.IdentityRequest r _ _ _ refl (one 2 b head.IdentityReply r _ _ Unknown refl refl)
+  find_06 = one 1 b head.IdentityRequest r _ _ _ refl (one 2 b head.IdentityReply r _ _ None refl refl)
 
   find_07 : found 0x07 ≡ got_head (head_07 b) (0x07 ∷ b ∷ r)
   find_07 =
       one 1 b head.FileDumpHeader r _ _ _ refl (one 2 b head.FileDumpPacket r _ _ _ refl
-      (one 3 b head.FileDumpRequest r _ _ Unknown refl refl))
+      (one 3 b head.FileDumpRequest r _ _ None refl refl))
 
   find_08 : found 0x08 ≡ got_head (head_08 b) (0x08 ∷ b ∷ r)
   find_08 =
       one 0 b head.TuningBulkDumpRequest r _ _ _ refl (one 1 b head.KeyBasedTuningDump r _ _ _ refl (one 3 b head.BankTuningBulkDumpRequest r _ _ _ refl
       (one 4 b head.BankKeyBasedTuningDump r _ _ _ refl (one 5 b head.ScaleTuningDump1Byte r _ _ _ refl (one 6 b head.ScaleTuningDump2Byte r _ _ _ refl
       (one 7 b head.TuningNoteChange r _ _ _ refl (one 8 b head.ScaleTuning1Byte r _ _ _ refl
-      (one 9 b head.ScaleTuning2Byte r _ _ Unknown refl refl))))))))
+      (one 9 b head.ScaleTuning2Byte r _ _ None refl refl))))))))
 
   find_09 : found 0x09 ≡ got_head (head_09 b) (0x09 ∷ b ∷ r)
   find_09 =
       one 1 b head.GeneralMidi1 r _ _ _ refl (one 2 b head.GeneralMidiOff r _ _ _ refl
-      (one 3 b head.GeneralMidi2 r _ _ Unknown refl refl))
+      (one 3 b head.GeneralMidi2 r _ _ None refl refl))
 
 -- a head of the other kind is passed over
 pass : (x : Bool) (t : Head) (s : List ℕ) (g : Got Head) → or_else t (allow (only_if x (some s)) false) g ≡ g
@@ -88,10 +87,10 @@ pass false t s g = refl
 find_0b : (k : Kind) (b : ℕ) (r : List ℕ) → found k b r 0x0B ≡ got_head (head_0b k b) (0x0B ∷ b ∷ r)
 find_0b Bank b r =
     one 1 b head.FileReferenceOpen r _ _ _ refl (one 2 b head.SelectSoundFile r _ _ _ refl (pass (eqb 2 b) head.SelectWAV r _
-    ∙ one 3 b head.FileReferenceOpenSelect r _ _ _ refl (one 4 b head.FileReferenceClose r _ _ Unknown refl refl)))
+    ∙ one 3 b head.FileReferenceOpenSelect r _ _ _ refl (one 4 b head.FileReferenceClose r _ _ None refl refl)))
 find_0b WAV b r =
     one 1 b head.FileReferenceOpen r _ _ _ refl (pass (eqb 2 b) head.SelectSoundFile r _ ∙ one 2 b head.SelectWAV r _ _ _ refl
-    (one 3 b head.FileReferenceOpenSelect r _ _ _ refl (one 4 b head.FileReferenceClose r _ _ Unknown refl refl)))
+    (one 3 b head.FileReferenceOpenSelect r _ _ _ refl (one 4 b head.FileReferenceClose r _ _ None refl refl)))
 
 pub head_find : (k : Kind) (a b : ℕ) (r : List ℕ) → find (reads k) code all_heads (a ∷ b ∷ r) ≡ got_head (head_at k a b) (a ∷ b ∷ r)
 head_find k a b r =
@@ -132,41 +131,7 @@ head_find k a b r =
       ne_eqb a _ m5,
     )
 
--- ---- what is told beside a head is of that head
+-- ---- a head has one byte or two
 
-abbrev pub Sized : HeadFound → Type 0
-Sized (Known h n s) = (n ≡ length (code h)) × (s ≡ summed h) × (n ≤ 2)
-Sized Unknown = Unit {0}
-
-code_short : (h : Head) → length (code h) ≤ 2
+pub code_short : (h : Head) → length (code h) ≤ 2
 code_short = elim [ head.SampleDumpHeader ↦ omega arith | head.SampleDumpPacket ↦ omega arith | head.SampleDumpRequest ↦ omega arith | head.LoopPointTransmission ↦ omega arith | head.LoopPointsRequest ↦ omega arith | head.SampleName ↦ omega arith | head.SampleNameRequest ↦ omega arith | head.ExtendedHeader ↦ omega arith | head.ExtendedLoopPointTransmission ↦ omega arith | head.ExtendedLoopPointsRequest ↦ omega arith | head.IdentityRequest ↦ omega arith | head.IdentityReply ↦ omega arith | head.FileDumpHeader ↦ omega arith | head.FileDumpPacket ↦ omega arith | head.FileDumpRequest ↦ omega arith | head.TuningBulkDumpRequest ↦ omega arith | head.KeyBasedTuningDump ↦ omega arith | head.BankTuningBulkDumpRequest ↦ omega arith | head.BankKeyBasedTuningDump ↦ omega arith | head.ScaleTuningDump1Byte ↦ omega arith | head.ScaleTuningDump2Byte ↦ omega arith | head.TuningNoteChange ↦ omega arith | head.ScaleTuning1Byte ↦ omega arith | head.ScaleTuning2Byte ↦ omega arith | head.GeneralMidi1 ↦ omega arith | head.GeneralMidiOff ↦ omega arith | head.GeneralMidi2 ↦ omega arith | head.FileReferenceOpen ↦ omega arith | head.SelectSoundFile ↦ omega arith | head.SelectWAV ↦ omega arith | head.FileReferenceOpenSelect ↦ omega arith | head.FileReferenceClose ↦ omega arith | head.EOF ↦ omega arith | head.Wait ↦ omega arith | head.Cancel ↦ omega arith | head.NAK ↦ omega arith | head.ACK ↦ omega arith ]
-
-sized : (t : Bool) (h : Head) (p : HeadFound) → Sized p → Sized (pick t (known h) p)
-sized true h p e = (refl, refl, code_short h)
-sized false h p e = e
-
-sized_or : (t : Bool) (p q : HeadFound) → Sized p → Sized q → Sized (pick t p q)
-sized_or true p q e f = e
-sized_or false p q e f = f
-
-sized_05 : (b : ℕ) → Sized (head_05 b)
-sized_05 b = sized (eqb b 1) head.LoopPointTransmission _ (sized (eqb b 2) head.LoopPointsRequest _ (sized (eqb b 3) head.SampleName _ (sized (eqb b 4) head.SampleNameRequest _ (sized (eqb b 5) head.ExtendedHeader _ (sized (eqb b 6) head.ExtendedLoopPointTransmission _ (sized (eqb b 7) head.ExtendedLoopPointsRequest Unknown tt))))))
-
-sized_06 : (b : ℕ) → Sized (head_06 b)
-sized_06 b = sized (eqb b 1) head.IdentityRequest _ (sized (eqb b 2) head.IdentityReply Unknown tt)
-
-sized_07 : (b : ℕ) → Sized (head_07 b)
-sized_07 b = sized (eqb b 1) head.FileDumpHeader _ (sized (eqb b 2) head.FileDumpPacket _ (sized (eqb b 3) head.FileDumpRequest Unknown tt))
-
-sized_08 : (b : ℕ) → Sized (head_08 b)
-sized_08 b = sized (eqb b 0) head.TuningBulkDumpRequest _ (sized (eqb b 1) head.KeyBasedTuningDump _ (sized (eqb b 3) head.BankTuningBulkDumpRequest _ (sized (eqb b 4) head.BankKeyBasedTuningDump _ (sized (eqb b 5) head.ScaleTuningDump1Byte _ (sized (eqb b 6) head.ScaleTuningDump2Byte _ (sized (eqb b 7) head.TuningNoteChange _ (sized (eqb b 8) head.ScaleTuning1Byte _ (sized (eqb b 9) head.ScaleTuning2Byte Unknown tt))))))))
-
-sized_09 : (b : ℕ) → Sized (head_09 b)
-sized_09 b = sized (eqb b 1) head.GeneralMidi1 _ (sized (eqb b 2) head.GeneralMidiOff _ (sized (eqb b 3) head.GeneralMidi2 Unknown tt))
-
-sized_0b : (k : Kind) (b : ℕ) → Sized (head_0b k b)
-sized_0b k b = sized (eqb b 1) head.FileReferenceOpen _ (sized (eqb b 2) (select_head k) _ (sized (eqb b 3) head.FileReferenceOpenSelect _ (sized (eqb b 4) head.FileReferenceClose Unknown tt)))
-
--- the size and the checksum that are told with a head
-pub head_sized : (k : Kind) (a b : ℕ) → Sized (head_at k a b)
-head_sized k a b = sized (eqb a 0x01) head.SampleDumpHeader _ (sized (eqb a 0x02) head.SampleDumpPacket _ (sized (eqb a 0x03) head.SampleDumpRequest _ (sized_or (eqb a 0x05) _ _ (sized_05 b) (sized_or (eqb a 0x06) _ _ (sized_06 b) (sized_or (eqb a 0x07) _ _ (sized_07 b) (sized_or (eqb a 0x08) _ _ (sized_08 b) (sized_or (eqb a 0x09) _ _ (sized_09 b) (sized_or (eqb a 0x0B) _ _ (sized_0b k b) (sized (eqb a 0x7B) head.EOF _ (sized (eqb a 0x7C) head.Wait _ (sized (eqb a 0x7D) head.Cancel _ (sized (eqb a 0x7E) head.NAK _ (sized (eqb a 0x7F) head.ACK Unknown tt)))))))))))))

@@ -3,16 +3,14 @@
 use mathlib.Core.Path.{refl}
 use Rattle.messages.specs.declared.system_exclusive.UniversalNonRealTimeMsg.TheVariants as msg
 use Rattle.messages.specs.declared.head.Head.TheVariants as head
-use Rattle.read_places.proofs.Laws.Answers.{reads_none}
+use Rattle.read_places.proofs.Laws.Answers.{reads_test}
+use lib.ListN.{length}
 use Rattle.read_places.specs.Places.{value_at}
-use Rattle.read_system_exclusive.proofs.Laws.{reads_numbers, number_reads, number_not}
+use Rattle.read_system_exclusive.proofs.Laws.{number_reads, number_not}
 use Rattle.read_system_exclusive.proofs.nak.Goals as goal
-
-pub returns-then-f-ne1 : goal.returns-then-f-ne1
-returns-then-f-ne1 c = reads_none head.NAK _ (number_not c.args.f.now c.if-f-ne1.true)
 
 pub returns : goal.returns
 returns c =
     let f = c.args.f.now in
-    rw (c.numbers.ensures, c.u7_at.ensures)
-    (reads_numbers head.NAK (msg.NAK (value_at 1 f 0)) f (value_at 1 f 0) (λ d. refl) refl refl (number_reads f c.requires c.if-f-ne1.false))
+    rw (c.then_some.ensures, c.numbers.ensures, c.u7_at.ensures, c.len.ensures.size)
+    (reads_test head.NAK f (msg.NAK (value_at 1 f 0)) (value_at 1 f 0) (λ d. refl) refl refl (length f) 1 (number_reads f c.len.ensures.seven) (number_not f))

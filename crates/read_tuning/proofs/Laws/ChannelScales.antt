@@ -4,35 +4,35 @@ use mathlib.Core.Path.{◌≡◌, refl, sym, ap, ◌∙◌}
 use mathlib.Core.Bool.{Bool, true, false}
 use mathlib.Core.Option.{none, some}
 use mathlib.Core.List.{List, [], ◌∷◌}
-use Prim.Native.Nat.{ℕ, ◌<◌, ◌≤◌}
+use Prim.Native.Nat.{ℕ, suc, ◌<◌, ◌≤◌}
 use native.Mathlib.Nat.{add-zero}
 use native.Mathlib.Omega.{arith}
 use lib.Dec.{ltb, lit<, lit≤}
 use lib.ListN.{length, take}
 use borrow.Author.Tests.{ltb-true, ltb-false}
+use Rattle.std.specs.Prelude.{Option, Some, None}
 use Rattle.util.specs.Groups.{Seven, groups_high, value_high}
 use Rattle.util.specs.Pick.{pick}
 use Rattle.util.specs.Channels.{channels_of}
-use Rattle.util.specs.declared.channels.ChannelSet.{ChannelSet}
-use Rattle.util.specs.declared.channels.ChannelSet.TheVariants.{Set, Spare}
 use Rattle.util.proofs.Laws.Groups.{value_high_groups}
 use Rattle.util.proofs.Laws.Options.{not_some}
 use Rattle.messages.specs.declared.head.Head.TheVariants as head
-use Rattle.messages.specs.format.Tests.{other_length}
+use Rattle.messages.specs.format.Lists.{all_bytes}
+use Rattle.messages.specs.Fields.{s7, s14}
 use Rattle.messages.specs.Layouts.{form}
 use Rattle.read_places.specs.Places.{value_at}
 use Rattle.read_places.proofs.Laws.Numbers.{high_below_at}
 use Rattle.read_places.proofs.Laws.Answers.{none_left}
 use Rattle.read_tuning.specs.Scales.{scale_1_at, scale_2_at}
-use Rattle.read_tuning.proofs.Laws.Scales.{scale_1_reads, scale_2_reads}
+use Rattle.read_tuning.proofs.Laws.Scales.{s7_size, s14_size, scale_1_reads, scale_2_reads}
 
 -- ---- the set of three bytes
 
-set_by : (x v : ℕ) (t : Bool) → ltb x 65536 ≡ t → pick t (Set x) Spare ≡ Set v → (x < 65536) × (x ≡ v)
+set_by : (x v : ℕ) (t : Bool) → ltb x 65536 ≡ t → pick t (Some x) None ≡ Some v → (x < 65536) × (x ≡ v)
 set_by x v true e h = let y : x ≡ v = cc in (ltb-true x 65536 e, y)
 set_by x v false e h = absurd (let z : ◌≡◌ {A = ℕ} 0 1 = cc in omega arith)
 
-spare_by : (x : ℕ) (t : Bool) → ltb x 65536 ≡ t → pick t (Set x) Spare ≡ Spare → 65536 ≤ x
+spare_by : (x : ℕ) (t : Bool) → ltb x 65536 ≡ t → pick t (Some x) None ≡ None → 65536 ≤ x
 spare_by x true e h = absurd (let z : ◌≡◌ {A = ℕ} 0 1 = cc in omega arith)
 spare_by x false e h = ltb-false x 65536 e
 
@@ -43,22 +43,26 @@ three (a ∷ []) h = absurd (omega arith)
 three (a ∷ b ∷ []) h = absurd (omega arith)
 three (a ∷ b ∷ c ∷ l) h = λ i. sym (add-zero a) i ∷ sym (add-zero b) i ∷ sym (add-zero c) i ∷ []
 
-abbrev set_at : List ℕ → ChannelSet
+abbrev set_at : List ℕ → Option ℕ
 set_at f = channels_of (value_at 1 f 0) (value_at 1 f 1) (value_at 1 f 2)
 
-set_is : (f : List ℕ) (v : ℕ) → 3 ≤ length f → set_at f ≡ Set v → (value_high (take 3 f) < 65536) × (value_high (take 3 f) ≡ v)
+set_is : (f : List ℕ) (v : ℕ) → 3 ≤ length f → set_at f ≡ Some v → (value_high (take 3 f) < 65536) × (value_high (take 3 f) ≡ v)
 set_is f v h e = rw (three f h) (set_by (value_high (value_at 1 f 0 ∷ value_at 1 f 1 ∷ value_at 1 f 2 ∷ [])) v _ refl e)
 
-spare_is : (f : List ℕ) → 3 ≤ length f → set_at f ≡ Spare → 65536 ≤ value_high (take 3 f)
+spare_is : (f : List ℕ) → 3 ≤ length f → set_at f ≡ None → 65536 ≤ value_high (take 3 f)
 spare_is f h e = rw (three f h) (spare_by (value_high (value_at 1 f 0 ∷ value_at 1 f 1 ∷ value_at 1 f 2 ∷ [])) _ refl e)
 
 module _ (f : List ℕ) (s : Seven f) where
   -- ---- signed values of one group
 
   pub scale_1_size : (length f ≡ 15 → ⊥) → (form head.ScaleTuning1Byte).read f ≡ none
-  scale_1_size k = other_length (form head.ScaleTuning1Byte) 15 (λ a. refl) f k
+  scale_1_size k =
+      not_some ((form head.ScaleTuning1Byte).read f)
+      λ a e. let w = (form head.ScaleTuning1Byte).only f a e in
+      let n : length f ≡ suc (suc (suc (length (all_bytes s7 a.scale)))) = sym (ap length w.1) in
+      k (omega (arith, n, s7_size a.scale, w.0.0.1.0))
 
-  pub scale_1_read : (v : ℕ) → length f ≡ 15 → set_at f ≡ Set v → (form head.ScaleTuning1Byte).read f ≡ some (record { channels = v; scale = scale_1_at f 3 })
+  pub scale_1_read : (v : ℕ) → length f ≡ 15 → set_at f ≡ Some v → (form head.ScaleTuning1Byte).read f ≡ some (record { channels = v; scale = scale_1_at f 3 })
   scale_1_read v n e =
       let w = set_is f v (omega arith) e in
       rw (
@@ -68,7 +72,7 @@ module _ (f : List ℕ) (s : Seven f) where
         w.1,
       )
 
-  pub scale_1_spare : length f ≡ 15 → set_at f ≡ Spare → (form head.ScaleTuning1Byte).read f ≡ none
+  pub scale_1_spare : length f ≡ 15 → set_at f ≡ None → (form head.ScaleTuning1Byte).read f ≡ none
   scale_1_spare n e =
       not_some ((form head.ScaleTuning1Byte).read f)
       λ a d. let w = (form head.ScaleTuning1Byte).only f a d in
@@ -79,9 +83,13 @@ module _ (f : List ℕ) (s : Seven f) where
   -- ---- signed values of two groups
 
   pub scale_2_size : (length f ≡ 27 → ⊥) → (form head.ScaleTuning2Byte).read f ≡ none
-  scale_2_size k = other_length (form head.ScaleTuning2Byte) 27 (λ a. refl) f k
+  scale_2_size k =
+      not_some ((form head.ScaleTuning2Byte).read f)
+      λ a e. let w = (form head.ScaleTuning2Byte).only f a e in
+      let n : length f ≡ suc (suc (suc (length (all_bytes s14 a.scale)))) = sym (ap length w.1) in
+      k (omega (arith, n, s14_size a.scale, w.0.0.1.0))
 
-  pub scale_2_read : (v : ℕ) → length f ≡ 27 → set_at f ≡ Set v → (form head.ScaleTuning2Byte).read f ≡ some (record { channels = v; scale = scale_2_at f 3 })
+  pub scale_2_read : (v : ℕ) → length f ≡ 27 → set_at f ≡ Some v → (form head.ScaleTuning2Byte).read f ≡ some (record { channels = v; scale = scale_2_at f 3 })
   scale_2_read v n e =
       let w = set_is f v (omega arith) e in
       rw (
@@ -91,7 +99,7 @@ module _ (f : List ℕ) (s : Seven f) where
         w.1,
       )
 
-  pub scale_2_spare : length f ≡ 27 → set_at f ≡ Spare → (form head.ScaleTuning2Byte).read f ≡ none
+  pub scale_2_spare : length f ≡ 27 → set_at f ≡ None → (form head.ScaleTuning2Byte).read f ≡ none
   scale_2_spare n e =
       not_some ((form head.ScaleTuning2Byte).read f)
       λ a d. let w = (form head.ScaleTuning2Byte).only f a d in

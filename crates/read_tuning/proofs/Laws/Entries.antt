@@ -15,8 +15,8 @@ use Rattle.util.specs.Limits.{no_tuning}
 use Rattle.util.specs.Groups.{Seven, value_high}
 use Rattle.util.specs.Pick.{pick}
 use Rattle.util.proofs.Laws.Groups.{both_true}
-use Rattle.messages.specs.declared.tuning.MaybeTuning.{MaybeTuning}
-use Rattle.messages.specs.declared.tuning.MaybeTuning.TheVariants.{NoTuning}
+use Rattle.std.specs.Prelude.{Option, None}
+use Rattle.messages.specs.declared.tuning.Tuning.{Tuning}
 use Rattle.messages.specs.format.Core.{got}
 use Rattle.messages.specs.Fields.{tuning, tuning_named, tuned, is_none}
 use Rattle.messages.specs.Structures.{key_tuning}
@@ -28,7 +28,7 @@ use Rattle.read_places.proofs.Laws.Numbers.{unsigned_at, high_at, value_lt, valu
 -- ---- the entry that the code computes
 
 -- by the test for no tuning
-named_by : (a v : ℕ) (t : Bool) → is_none (a, v) ≡ t → v < 65536 → (a * 65536 + v ≡ 8339455 → ⊥) → a * 65536 + v ≡ tuning_entry (pick t NoTuning (tuned (a, v)))
+named_by : (a v : ℕ) (t : Bool) → is_none (a, v) ≡ t → v < 65536 → (a * 65536 + v ≡ 8339455 → ⊥) → a * 65536 + v ≡ tuning_entry (pick t None (tuned (a, v)))
 named_by a v true e h k =
     let z = both_true (eqb a (largest 1)) (eqb v (largest 2)) e in
     absurd (k (omega (arith, eqb-true a (largest 1) z.0, eqb-true v (largest 2) z.1)))
@@ -60,7 +60,7 @@ fraction_cut (x ∷ f) (suc i) h = fraction_cut f i (omega arith)
 
 -- ---- the value that an entry says
 
-named_within : (a v : ℕ) (t : Bool) → a < 256 → v < 65536 → Within (pick t NoTuning (tuned (a, v)))
+named_within : (a v : ℕ) (t : Bool) → a < 256 → v < 65536 → Within (pick t None (tuned (a, v)))
 named_within a v true h g = tt
 named_within a v false h g = (h, g)
 
@@ -77,7 +77,7 @@ module _ (f : List ℕ) (s : Seven f) where
       rw (unsigned_at f s 1 i (omega arith), high_at f s 2 (i + 1) (omega arith), e)
 
   pub tuning_reads : (i : ℕ) → i + 3 ≤ length f → tuning.read (drop i f) ≡ got (tuning_of (tuning_entry (tuning_at f i))) (drop (i + 3) f)
-  tuning_reads i h = tuning_plain i h ∙ ap (λ (t : MaybeTuning). got t (drop (i + 3) f)) (sym (tuning_back (tuning_at f i) (within i h)))
+  tuning_reads i h = tuning_plain i h ∙ ap (λ (t : Option Tuning). got t (drop (i + 3) f)) (sym (tuning_back (tuning_at f i) (within i h)))
 
   change_plain : (i : ℕ) → i + 4 ≤ length f → key_tuning.read (drop i f) ≡ got (change_at f i) (drop (i + 4) f)
   change_plain i h =

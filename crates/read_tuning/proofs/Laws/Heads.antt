@@ -2,6 +2,7 @@
 -- Assumes nothing.
 use mathlib.Core.Path.{◌≡◌, refl, sym, ap, ◌∙◌}
 use mathlib.Core.Option.{none, some}
+use Rattle.std.specs.Prelude.{Option, Some}
 use mathlib.Core.List.{List, [], ◌∷◌, ◌++◌, map}
 use Prim.Native.Nat.{ℕ, suc, ◌+◌, ◌*◌, ◌<◌, ◌≤◌}
 use native.Mathlib.Omega.{arith}
@@ -11,13 +12,12 @@ use borrow.Author.Tests.{lt-ltb}
 use Rattle.util.specs.Groups.{Seven}
 use Rattle.util.proofs.Laws.Options.{not_some}
 use Rattle.messages.specs.declared.head.Head.TheVariants as head
-use Rattle.messages.specs.declared.tuning.MaybeTuning.{MaybeTuning}
+use Rattle.messages.specs.declared.tuning.Tuning.{Tuning}
 use Rattle.messages.specs.declared.tuning.KeyTuning.{KeyTuning}
-use Rattle.messages.specs.declared.tuning.TuningBank.TheVariants.{Bank}
 use Rattle.messages.specs.format.Tests.{other_length}
 use Rattle.messages.specs.format.Lists.{all_bytes}
-use Rattle.messages.specs.Fields.{u7, tuning}
-use Rattle.messages.specs.Structures.{key_tuning, scale_1, scale_2}
+use Rattle.messages.specs.Fields.{u7, s7, s14, tuning}
+use Rattle.messages.specs.Structures.{key_tuning}
 use Rattle.messages.specs.Entries.{tuning_entry, tuning_of, change_entry, change_of}
 use Rattle.messages.specs.Layouts.{form}
 use Rattle.read_places.specs.Places.{value_at, tuning_at, change_at, tuning_entries, change_entries}
@@ -26,11 +26,11 @@ use Rattle.read_places.proofs.Laws.Lists.{bytes_at, bytes_length, items_at}
 use Rattle.read_places.proofs.Laws.Answers.{none_left}
 use Rattle.read_tuning.specs.Scales.{scale_1_at, scale_2_at}
 use Rattle.read_tuning.proofs.Laws.Entries.{tuning_reads, change_reads}
-use Rattle.read_tuning.proofs.Laws.Scales.{scale_1_reads, scale_2_reads}
+use Rattle.read_tuning.proofs.Laws.Scales.{s7_size, s14_size, scale_1_reads, scale_2_reads}
 
 -- ---- how many bytes a list takes
 
-tunings_size : (l : List MaybeTuning) → length (all_bytes tuning l) ≡ 3 * length l
+tunings_size : (l : List (Option Tuning)) → length (all_bytes tuning l) ≡ 3 * length l
 tunings_size [] = refl
 tunings_size (x ∷ l) = omega (arith, tunings_size l)
 
@@ -98,8 +98,8 @@ module _ (f : List ℕ) (s : Seven f) where
   scale_dump_1_size k =
       not_some ((form head.ScaleTuningDump1Byte).read f)
       λ a e. let w = (form head.ScaleTuningDump1Byte).only f a e in
-      let n : length f ≡ suc (suc (length (all_bytes u7 a.name ++ scale_1.bytes a.scale))) = sym (ap length w.1) in
-      k (n ∙ omega (arith, length-append (all_bytes u7 a.name) (scale_1.bytes a.scale), bytes_length a.name, w.0.0.1.1.0.0))
+      let n : length f ≡ suc (suc (length (all_bytes u7 a.name ++ all_bytes s7 a.scale))) = sym (ap length w.1) in
+      k (n ∙ omega (arith, length-append (all_bytes u7 a.name) (all_bytes s7 a.scale), bytes_length a.name, s7_size a.scale, w.0.0.1.1.0.0, w.0.0.1.1.1.0))
 
   pub scale_dump_1_reads : length f ≡ 30
       → (form head.ScaleTuningDump1Byte).read f
@@ -117,8 +117,8 @@ module _ (f : List ℕ) (s : Seven f) where
   scale_dump_2_size k =
       not_some ((form head.ScaleTuningDump2Byte).read f)
       λ a e. let w = (form head.ScaleTuningDump2Byte).only f a e in
-      let n : length f ≡ suc (suc (length (all_bytes u7 a.name ++ scale_2.bytes a.scale))) = sym (ap length w.1) in
-      k (n ∙ omega (arith, length-append (all_bytes u7 a.name) (scale_2.bytes a.scale), bytes_length a.name, w.0.0.1.1.0.0))
+      let n : length f ≡ suc (suc (length (all_bytes u7 a.name ++ all_bytes s14 a.scale))) = sym (ap length w.1) in
+      k (n ∙ omega (arith, length-append (all_bytes u7 a.name) (all_bytes s14 a.scale), bytes_length a.name, s14_size a.scale, w.0.0.1.1.0.0, w.0.0.1.1.1.0))
 
   pub scale_dump_2_reads : length f ≡ 42
       → (form head.ScaleTuningDump2Byte).read f
@@ -146,7 +146,7 @@ module _ (f : List ℕ) (s : Seven f) where
 
   pub changes_read : 3 ≤ length f → length f ≡ 3 + 4 * value_at 1 f 2
       → (form head.TuningNoteChange).read f
-      ≡ some (record { bank = Bank (value_at 1 f 0); program = value_at 1 f 1; changes = map change_of (change_entries f 3 (value_at 1 f 2)) })
+      ≡ some (record { bank = Some (value_at 1 f 0); program = value_at 1 f 1; changes = map change_of (change_entries f 3 (value_at 1 f 2)) })
   changes_read m n =
       let g : get_or f 2 0 < 128 = seven_get f 2 s in
       let v = value_get f 2 in

@@ -1,6 +1,6 @@
 -- `read_tuning::bank_bulk_request` meets its contract.
 -- Assumes nothing.
-use mathlib.Core.Path.{refl, sym, ap}
+use mathlib.Core.Path.{refl, sym, ap, ◌∙◌}
 use native.Mathlib.Omega.{arith}
 use Rattle.messages.specs.declared.head.Head.TheVariants as head
 use Rattle.messages.specs.Messages.{plain_answer}
@@ -8,13 +8,14 @@ use Rattle.read_places.proofs.Laws.Answers.{reads_none}
 use Rattle.read_tuning.proofs.Laws.Heads.{bank_bulk_size, bank_bulk_reads}
 use Rattle.read_tuning.proofs.bank_bulk_request.Goals as goal
 
-pub returns-then-f-ne2 : goal.returns-then-f-ne2
-returns-then-f-ne2 c = reads_none head.BankTuningBulkDumpRequest _ (bank_bulk_size c.args.f.now c.requires c.if-f-ne2.true)
+pub returns-then-len-ne2 : goal.returns-then-len-ne2
+returns-then-len-ne2 c = reads_none head.BankTuningBulkDumpRequest _ (bank_bulk_size c.args.f.now c.len.ensures.seven (λ e. c.if-len-ne2.true (c.len.ensures.size ∙ e)))
 
 pub returns : goal.returns
 returns c =
+    rw c.numbers.ensures
     record {
-      says = λ d. rw (c.u7_at-2.ensures, c.u7_at.ensures) (ap (plain_answer d head.BankTuningBulkDumpRequest) (sym (bank_bulk_reads c.args.f.now c.requires c.if-f-ne2.false)));
+      says = λ d. rw (c.u7_at-2.ensures, c.u7_at.ensures) (ap (plain_answer d head.BankTuningBulkDumpRequest) (sym (bank_bulk_reads c.args.f.now c.len.ensures.seven (sym c.len.ensures.size ∙ c.if-len-ne2.false))));
       part = (omega arith, omega arith, omega arith, refl);
       start = (refl, refl);
     }

@@ -10,4 +10,4 @@ use Rattle.read_tuning.proofs.is_key_dump.Goals as goal
 pub returns : goal.returns
 returns c =
     let f = c.args.f.now in
-    read_if ((form head.KeyBasedTuningDump).read f) _ (length f) 401 (keys_read f c.requires) (keys_size f c.requires)
+    rw c.len.ensures.size (read_if ((form head.KeyBasedTuningDump).read f) _ (length f) 401 (keys_read f c.len.ensures.seven) (keys_size f c.len.ensures.seven))

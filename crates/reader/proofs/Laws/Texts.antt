@@ -11,8 +11,7 @@ use Rattle.messages.specs.declared.sample_dump.ExtendedSampleDumpMsg.{ExtendedSa
 use Rattle.messages.specs.declared.sample_dump.ExtendedSampleDumpMsg.TheVariants as extended
 use Rattle.messages.specs.declared.file_dump.FileDumpMsg.{FileDumpMsg}
 use Rattle.messages.specs.declared.file_dump.FileDumpMsg.TheVariants as file
-use Rattle.messages.specs.declared.tuning.TuningBank.{TuningBank}
-use Rattle.messages.specs.declared.tuning.TuningBank.TheVariants.{NoBank, Bank}
+use Rattle.std.specs.Prelude.{Option, Some, None}
 use Rattle.messages.specs.declared.general_midi.GeneralMidi.{GeneralMidi}
 use Rattle.messages.specs.declared.general_midi.GeneralMidi.TheVariants.{GM1, Off, GM2}
 use Rattle.messages.specs.declared.file_reference.SelectMap.{SelectMap}
@@ -54,13 +53,13 @@ module _ (d : DeviceID) (part dat es : List ℕ) where
   text_filed (file.Packet c) = refl
   text_filed (file.Request d t) = refl
 
-  text_request : (b : TuningBank) (p : ℕ) → Same (msg.TuningBulkDumpRequest b p)
-  text_request NoBank p = refl
-  text_request (Bank b) p = refl
+  text_request : (b : Option ℕ) (p : ℕ) → Same (msg.TuningBulkDumpRequest b p)
+  text_request None p = refl
+  text_request (Some b) p = refl
 
-  text_keys : (b : TuningBank) (p : ℕ) → Same (msg.KeyBasedTuningDump (record { tuning_bank_num = b; tuning_program_num = p }))
-  text_keys NoBank p = refl
-  text_keys (Bank b) p = refl
+  text_keys : (b : Option ℕ) (p : ℕ) → Same (msg.KeyBasedTuningDump (record { tuning_bank_num = b; tuning_program_num = p }))
+  text_keys None p = refl
+  text_keys (Some b) p = refl
 
   text_midi : (g : GeneralMidi) → Same (msg.GeneralMidi g)
   text_midi GM1 = refl

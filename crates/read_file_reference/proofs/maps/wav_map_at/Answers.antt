@@ -7,10 +7,11 @@ use Rattle.read_file_reference.proofs.maps.wav_map_at.Goals as goal
 
 pub returns-then-length-eq9 : goal.returns-then-length-eq9
 returns-then-length-eq9 c =
-    rw c.wav_at-map.ensures (wav_found c.args.f.now c.requires.0 c.args.i (omega (arith, c.requires.1, c.if-length-eq9.true)))
+    rw c.wav_at-map.ensures (wav_found c.args.f.now c.len.ensures.seven c.args.i (omega (arith, c.len.ensures.size, c.requires, c.if-length-eq9.true)))
 
 pub returns : goal.returns
 returns c =
     let f = c.args.f.now in
     let i = c.args.i in
-    picks_none wav_only f i (wav_other f c.requires.0 i c.if-length-eq9.false c.if-length-eq16.false)
+    let l = c.len.ensures.size in
+    picks_none wav_only f i (wav_other f c.len.ensures.seven i (λ x. c.if-length-eq9.false (omega arith)) (λ x. c.if-length-eq16.false (omega arith)))

@@ -1,24 +1,17 @@
 -- `read_file_reference::maps::wav_offset_at` meets its contract, by whether there is an offset after the map.
 -- Assumes nothing.
-use mathlib.Core.Path.{sym, ap, ◌∙◌}
-use Prim.Native.Nat.{◌+◌}
-use lib.ListN.{drop}
 use Rattle.messages.specs.Maps.{wav_only}
-use Rattle.read_file_reference.specs.Maps.{offset_got}
-use Rattle.read_file_reference.specs.declared.maps.OffsetFound.{OffsetFound}
 use Rattle.read_file_reference.proofs.Laws.Picks.{wav_offset_found, wav_offset_not, picks_none}
 use Rattle.read_file_reference.proofs.maps.wav_offset_at.Goals as goal
 
-pub returns-in-Is : goal.returns-in-Is
-returns-in-Is c =
+pub returns-in_err-bank_offset : goal.returns-in_err-bank_offset
+returns-in_err-bank_offset c =
     let f = c.args.f.now in
     let i = c.args.i in
-    let e = sym (ap (λ (o : OffsetFound). offset_got o (drop (i + 9 + 7) f)) c.in-Is.is) ∙ c.offset_at.ensures in
-    rw c.wav_at-map.ensures (wav_offset_found f c.requires.0 i c.requires.1 e)
+    let o = c.in_err-bank_offset.ensures in
+    rw c.from_residual.ensures (picks_none wav_only f i (wav_offset_not f o.0 i c.requires.0 o.1))
 
-pub returns-in-Nothing : goal.returns-in-Nothing
-returns-in-Nothing c =
-    let f = c.args.f.now in
-    let i = c.args.i in
-    let e = sym (ap (λ (o : OffsetFound). offset_got o (drop (i + 9 + 7) f)) c.in-Nothing.is) ∙ c.offset_at.ensures in
-    picks_none wav_only f i (wav_offset_not f c.requires.0 i c.requires.1 e)
+pub returns : goal.returns
+returns c =
+    let o = c.in_ok-bank_offset.ensures in
+    rw c.wav_at-map.ensures (wav_offset_found c.args.f.now o.0 c.args.i c.requires.0 o.1)

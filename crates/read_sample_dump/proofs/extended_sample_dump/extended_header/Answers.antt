@@ -1,25 +1,24 @@
--- `read_sample_dump::extended_sample_dump::extended_header` meets its contract: the length is that of the layout, the format in its range, and the type one of its table.
+-- `read_sample_dump::extended_sample_dump::extended_header` meets its contract: the length is that of the layout, the format in its range, and the type one of its table; each number is read by place.
+-- Assumes nothing.
+use Rattle.read_places.proofs.Laws.Answers.{reads_none, reads_numbers}
+use Rattle.read_sample_dump.proofs.Laws.ExtendedSampleDump.{header_not, header_reads}
+use mathlib.Core.Path.{refl}
 use native.Mathlib.Omega.{arith}
 use Rattle.messages.specs.declared.head.Head.TheVariants as head
-use Rattle.read_places.proofs.Laws.Answers.{reads_none}
-use Rattle.read_sample_dump.proofs.Laws.ExtendedSampleDump.{header_not}
 use Rattle.read_sample_dump.proofs.extended_sample_dump.extended_header.Goals as goal
 
-pub returns-then-f-ne28 : goal.returns-then-f-ne28
-returns-then-f-ne28 c = reads_none head.ExtendedHeader _ (header_not c.args.f.now c.requires (λ n p q t e. c.if-f-ne28.true n))
+pub returns-then-len-ne28 : goal.returns-then-len-ne28
+returns-then-len-ne28 c = reads_none head.ExtendedHeader c.args.f.now (header_not c.args.f.now c.len.ensures.seven λ n p q t e. grind (arith, c.then-len-ne28.either))
 
-pub returns-then-format-lt-LEAST_FORMAT : goal.returns-then-format-lt-LEAST_FORMAT
-returns-then-format-lt-LEAST_FORMAT c = reads_none head.ExtendedHeader _ (header_not c.args.f.now c.requires (λ n p q t e. omega (arith, c.if-format-lt-LEAST_FORMAT.true, c.at-format.ensures)))
+pub returns-in_err-loop_type : goal.returns-in_err-loop_type
+returns-in_err-loop_type c =
+    let f = c.args.f.now in
+    let k = rw (c.in_err-loop_type.was, c.at.ensures) at c.extended_loop_type.ensures in
+    rw c.from_residual.ensures (reads_none head.ExtendedHeader f (header_not f c.len.ensures.seven λ n p q t e. k t e))
 
-pub returns-then-format-gt-MOST_FORMAT : goal.returns-then-format-gt-MOST_FORMAT
-returns-then-format-gt-MOST_FORMAT c = reads_none head.ExtendedHeader _ (header_not c.args.f.now c.requires (λ n p q t e. omega (arith, c.if-format-gt-MOST_FORMAT.true, c.at-format.ensures)))
-
-pub extended_header_of-requires : goal.extended_header_of-requires
-extended_header_of-requires c =
-    let x = c.at-format.ensures in
-    (c.requires, c.if-f-ne28.false, rw x at c.if-format-lt-LEAST_FORMAT.false, rw x at c.if-format-gt-MOST_FORMAT.false, rw (c.in-Is.is, c.at.ensures) at c.extended_loop_type-named.ensures)
-
-pub returns-in-Nothing : goal.returns-in-Nothing
-returns-in-Nothing c =
-    let k = rw (c.in-Nothing.is, c.at.ensures) at c.extended_loop_type-named.ensures in
-    reads_none head.ExtendedHeader _ (header_not c.args.f.now c.requires (λ n p q t e. k t e))
+pub returns : goal.returns
+returns c =
+    let f = c.args.f.now in
+    let e = rw (c.in_ok-loop_type.was, c.at.ensures) at c.extended_loop_type.ensures in
+    rw (c.numbers.ensures, c.u7_at.ensures, c.u35_at-3.ensures, c.u35_at-2.ensures, c.u35_at.ensures, c.u28_at-2.ensures, c.u28_at.ensures, c.u14_at.ensures, c.at-format.ensures)
+    (reads_numbers head.ExtendedHeader f _ _ (λ d. refl) refl refl (header_reads f c.len.ensures.seven c.in_ok-loop_type.loop_type (omega arith) (omega arith) (omega arith) e))

@@ -1,17 +1,26 @@
--- `read_sample_dump::sample_dump::loop_points` meets its contract: the length is that of the layout, and the type is one of its table.
+-- `read_sample_dump::sample_dump::loop_points` meets its contract: the length is that of the layout, and the type is one of its table; each number is read by place, and 16,383 is delete all.
+-- Assumes nothing.
+use Rattle.read_places.proofs.Laws.Answers.{reads_none, reads_numbers}
+use Rattle.read_sample_dump.proofs.Laws.SampleDump.{loop_points_not, loop_points_reads}
+use mathlib.Core.Path.{refl, sym, ◌∙◌}
 use Rattle.messages.specs.declared.head.Head.TheVariants as head
-use Rattle.read_places.proofs.Laws.Answers.{reads_none}
-use Rattle.read_sample_dump.proofs.Laws.SampleDump.{loop_points_not}
 use Rattle.read_sample_dump.proofs.sample_dump.loop_points.Goals as goal
 
-pub returns-then-f-ne11 : goal.returns-then-f-ne11
-returns-then-f-ne11 c = reads_none head.LoopPointTransmission _ (loop_points_not c.args.f.now c.requires (λ n t e. c.if-f-ne11.true n))
+pub returns-then-len-ne11 : goal.returns-then-len-ne11
+returns-then-len-ne11 c =
+    let f = c.args.f.now in
+    reads_none head.LoopPointTransmission f (loop_points_not f c.len.ensures.seven λ n t e. c.if-len-ne11.true (c.len.ensures.size ∙ n))
 
-pub loop_points_of-requires : goal.loop_points_of-requires
-loop_points_of-requires c =
-    (c.requires, c.if-f-ne11.false, rw (c.in-Is.is, c.at.ensures) at c.loop_type-named.ensures)
+pub returns-in_err-loop_type : goal.returns-in_err-loop_type
+returns-in_err-loop_type c =
+    let f = c.args.f.now in
+    let k = rw (c.in_err-loop_type.was, c.at.ensures) at c.loop_type.ensures in
+    rw c.from_residual.ensures (reads_none head.LoopPointTransmission f (loop_points_not f c.len.ensures.seven λ n t e. k t e))
 
-pub returns-in-Nothing : goal.returns-in-Nothing
-returns-in-Nothing c =
-    let k = rw (c.in-Nothing.is, c.at.ensures) at c.loop_type-named.ensures in
-    reads_none head.LoopPointTransmission _ (loop_points_not c.args.f.now c.requires (λ n t e. k t e))
+pub returns : goal.returns
+returns c =
+    let f = c.args.f.now in
+    let e = rw (c.in_ok-loop_type.was, c.at.ensures) at c.loop_type.ensures in
+    let n = sym c.len.ensures.size ∙ c.if-len-ne11.false in
+    rw (c.numbers.ensures, c.u21_at-2.ensures, c.u21_at.ensures, c.loop_number.ensures, c.u14_at-2.ensures, c.u14_at.ensures)
+    (reads_numbers head.LoopPointTransmission f _ _ (λ d. refl) refl refl (loop_points_reads f c.len.ensures.seven c.in_ok-loop_type.loop_type n e))

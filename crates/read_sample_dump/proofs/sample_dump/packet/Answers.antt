@@ -1,20 +1,20 @@
 -- `read_sample_dump::sample_dump::packet` meets its contract: the length is that of the layout, and the samples are the part from 1 on.
-use mathlib.Core.Path.{refl, sym, ap}
+-- Assumes nothing.
+use Rattle.read_places.proofs.Laws.Answers.{reads_none, reads_found}
+use Rattle.read_sample_dump.proofs.Laws.SampleDump.{packet_not, packet_reads}
+use mathlib.Core.Path.{refl, sym, ◌∙◌}
 use native.Mathlib.Omega.{arith}
 use Rattle.messages.specs.declared.head.Head.TheVariants as head
-use Rattle.messages.specs.Messages.{plain_answer}
-use Rattle.read_places.proofs.Laws.Answers.{reads_none}
-use Rattle.read_sample_dump.proofs.Laws.SampleDump.{packet_not, packet_reads}
 use Rattle.read_sample_dump.proofs.sample_dump.packet.Goals as goal
 
-pub returns-then-f-ne-PACKET_FIELDS : goal.returns-then-f-ne-PACKET_FIELDS
-returns-then-f-ne-PACKET_FIELDS c = reads_none head.SampleDumpPacket _ (packet_not c.args.f.now c.requires c.if-f-ne-PACKET_FIELDS.true)
+pub returns-then-len-ne-PACKET_FIELDS : goal.returns-then-len-ne-PACKET_FIELDS
+returns-then-len-ne-PACKET_FIELDS c =
+    let f = c.args.f.now in
+    reads_none head.SampleDumpPacket f (packet_not f c.len.ensures.seven λ n. c.if-len-ne-PACKET_FIELDS.true (c.len.ensures.size ∙ n))
 
 pub returns : goal.returns
 returns c =
-    let n = c.if-f-ne-PACKET_FIELDS.false in
-    record {
-      says = λ d. rw c.u7_at.ensures (ap (plain_answer d head.SampleDumpPacket) (sym (packet_reads c.args.f.now c.requires n)));
-      part = omega (arith, n);
-      start = (refl, refl);
-    }
+    let f = c.args.f.now in
+    let n = sym c.len.ensures.size ∙ c.if-len-ne-PACKET_FIELDS.false in
+    rw (c.numbers.ensures, c.u7_at.ensures)
+    (reads_found head.SampleDumpPacket f _ _ (λ d. refl) (omega arith, omega arith, omega arith, refl) (refl, refl) (packet_reads f c.len.ensures.seven n))

@@ -9,26 +9,29 @@ use Rattle.reader.proofs.Laws.Apart.{data_is_at}
 use Rattle.reader.proofs.Laws.Met.{data_at_size, short_data, short_entries, data_put, entries_put}
 use Rattle.reader.proofs.lent.fill.Goals as goal
 
-pub returns-then-data-count : goal.returns-then-data-count
-returns-then-data-count c = let a = c.args in
-    short_data a.m a.f.now a.at a.count c.requires.3 a.device a.from a.len a.«data».now a.entries.now (sym c.has_data.ensures ∙ c.if-has_data.true) c.if-data-count.true
+pub returns-then-data-reading : goal.returns-then-data-reading
+returns-then-data-reading c = let a = c.args in
+    short_data a.reading a.f.now a.at c.requires.3 a.«data».now a.entries.now (sym c.has_data.ensures ∙ c.if-has_data.true) c.if-data-reading.true
 
 pub put_data-requires : goal.put_data-requires
 put_data-requires c =
     let a = c.args in
-    (c.requires.0, c.requires.1, omega (arith, c.if-data-count.false, data_at_size a.m a.f.now a.at a.count c.requires.3 (sym c.has_data.ensures ∙ c.if-has_data.true)))
+    let n = data_at_size a.reading.m a.f.now a.at a.reading.places c.requires.3 (sym c.has_data.ensures ∙ c.if-has_data.true) in
+    (c.requires.0, c.requires.1, omega (arith, c.if-data-reading.false))
 
-pub returns-then-entries-count : goal.returns-then-entries-count
-returns-then-entries-count c = let a = c.args in
-    short_entries a.m a.f.now a.at a.count c.requires.3 a.device a.from a.len a.«data».now a.entries.now (sym c.has_data.ensures ∙ c.if-has_data.false) c.if-entries-count.true
+pub returns-then-entries-reading : goal.returns-then-entries-reading
+returns-then-entries-reading c = let a = c.args in
+    short_entries a.reading a.f.now a.at c.requires.3 a.«data».now a.entries.now (sym c.has_data.ensures ∙ c.if-has_data.false) c.if-entries-reading.true
 
-pub returns-else-data-count : goal.returns-else-data-count
-returns-else-data-count c =
+pub returns-else-data-reading : goal.returns-else-data-reading
+returns-else-data-reading c =
     let a = c.args in
     let h = sym c.has_data.ensures ∙ c.if-has_data.true in
-    data_put a.m a.f.now a.at a.count c.requires.3 a.device a.from a.len a.«data».now a.entries.now h c.if-data-count.false c.put_data.new.out (c.put_data.ensures ∙ ap (λ (x : List ℕ). overwritten x a.«data».now) (sym (data_is_at a.m a.f.now a.at h)))
+    data_put a.reading a.f.now a.at c.requires.3 a.«data».now a.entries.now h c.if-data-reading.false c.put_data.new.out
+    (c.put_data.ensures ∙ ap (λ (x : List ℕ). overwritten x a.«data».now) (sym (data_is_at a.reading.m a.f.now a.at h)))
 
-pub returns-else-entries-count : goal.returns-else-entries-count
-returns-else-entries-count c =
+pub returns-else-entries-reading : goal.returns-else-entries-reading
+returns-else-entries-reading c =
     let a = c.args in
-    entries_put a.m a.f.now a.at a.count c.requires.3 a.device a.from a.len a.«data».now a.entries.now (sym c.has_data.ensures ∙ c.if-has_data.false) c.if-entries-count.false c.put_entries.new.out c.put_entries.ensures
+    entries_put a.reading a.f.now a.at c.requires.3 a.«data».now a.entries.now (sym c.has_data.ensures ∙ c.if-has_data.false) c.if-entries-reading.false
+    c.put_entries.new.out c.put_entries.ensures

@@ -1,81 +1,45 @@
 -- `reader::lent::read_fields` meets its contract: what the fields say, and what the lent places hold after it.
 -- Assumes nothing.
-use mathlib.Core.Path.{ap, subst, ◌∙◌}
-use mathlib.Core.List.{List}
-use Prim.Native.Nat.{ℕ}
+use mathlib.Core.Path.{ap, ◌∙◌}
 use native.Mathlib.Omega.{arith}
-use Rattle.messages.specs.declared.system_exclusive.UniversalNonRealTimeMsg.{UniversalNonRealTimeMsg}
 use Rattle.messages.specs.Fields.{device_of}
-use Rattle.read_places.specs.declared.Found.{Found}
-use Rattle.read_places.specs.declared.Found.TheVariants.{Is}
-use Rattle.read_places.specs.Found.{Reads}
 use Rattle.reader.proofs.Laws.Met.{read_refused}
-use Rattle.reader.proofs.Laws.Fields.{lent_fields, long_enough, fields_seven, begins_within, read_right, wrong_says, none_says}
+use Rattle.reader.proofs.Laws.Fields.{long_enough, fields_seven, begins_within, read_right, wrong_says, none_says}
 use Rattle.reader.proofs.lent.read_fields.Goals as goal
 
-pub overflow_add-a : goal.overflow_add-a
-overflow_add-a c = let a = c.args in omega (arith, long_enough a.frame.now a.h a.start a.end a.sum c.requires, c.requires.2, c.well_formed.0)
+pub overflow_add-start : goal.overflow_add-start
+overflow_add-start c = omega (arith, long_enough c.args.frame.now c.args.o c.requires, c.requires.2, c.well_formed.0)
 
 pub overflow_add-e : goal.overflow_add-e
-overflow_add-e c = let a = c.args in omega (arith, long_enough a.frame.now a.h a.start a.end a.sum c.requires, c.well_formed.0)
+overflow_add-e c = omega (arith, long_enough c.args.frame.now c.args.o c.requires, c.well_formed.0)
 
-pub slice_bounds-f-end : goal.slice_bounds-f-end
-slice_bounds-f-end c = let a = c.args in omega (arith, long_enough a.frame.now a.h a.start a.end a.sum c.requires)
+pub slice_bounds-bytes-end : goal.slice_bounds-bytes-end
+slice_bounds-bytes-end c = omega (arith, long_enough c.args.frame.now c.args.o c.requires)
 
-pub fields_of-requires : goal.fields_of-requires
-fields_of-requires c = let a = c.args in fields_seven a.frame.now a.h a.start a.end a.sum c.requires
+pub invariant_of-f : goal.invariant_of-f
+invariant_of-f c = fields_seven c.args.frame.now c.args.o c.requires
 
-pub text_start-begin-requires : goal.text_start-begin-requires
-text_start-begin-requires c =
-    let M : UniversalNonRealTimeMsg = c.in-Is.m in
-    let F : ℕ = c.in-Is.from in
-    let N : ℕ = c.in-Is.len in
-    let I : ℕ = c.in-Is.at in
-    let C : ℕ = c.in-Is.count in
-    let fields : List ℕ = lent_fields c.args.frame.now c.args.h c.args.start c.args.end c.args.sum c.requires in
-    let reads : Reads c.args.h (Is M F N I C) fields = subst (λ (r : Found). Reads c.args.h r fields) c.in-Is.is c.fields_of.ensures in
-    let a = c.args in
-    begins_within a.frame.now a.h a.start a.end a.sum c.requires reads
+pub returns-in-None : goal.returns-in-None
+returns-in-None c =
+    let l = c.args.frame.now in
+    read_refused _ _ l c.args.«data».now c.args.entries.now (none_says l c.args.o c.requires c.in-None.ensures)
+
+pub returns-else-o : goal.returns-else-o
+returns-else-o c =
+    let l = c.args.frame.now in
+    read_refused _ _ l c.args.«data».now c.args.entries.now (wrong_says l c.args.o c.requires c.in-Some.ensures c.if-o.false)
+
+pub text_start-requires : goal.text_start-requires
+text_start-requires c = begins_within c.args.frame.now c.args.o c.requires c.in-Some.ensures
 
 pub fill-requires : goal.fill-requires
 fill-requires c =
-    let M : UniversalNonRealTimeMsg = c.in-Is.m in
-    let F : ℕ = c.in-Is.from in
-    let N : ℕ = c.in-Is.len in
-    let I : ℕ = c.in-Is.at in
-    let C : ℕ = c.in-Is.count in
-    let fields : List ℕ = lent_fields c.args.frame.now c.args.h c.args.start c.args.end c.args.sum c.requires in
-    let reads : Reads c.args.h (Is M F N I C) fields = subst (λ (r : Found). Reads c.args.h r fields) c.in-Is.is c.fields_of.ensures in
-    let a = c.args in
-    (fields_seven a.frame.now a.h a.start a.end a.sum c.requires, reads.part.1, reads.part.2, reads.part.3)
+    let w = c.in-Some.ensures in
+    (fields_seven c.args.frame.now c.args.o c.requires, w.part.1, w.part.2, w.part.3)
 
-pub returns-then-sum : goal.returns-then-sum
-returns-then-sum c =
-    let M : UniversalNonRealTimeMsg = c.in-Is.m in
-    let F : ℕ = c.in-Is.from in
-    let N : ℕ = c.in-Is.len in
-    let I : ℕ = c.in-Is.at in
-    let C : ℕ = c.in-Is.count in
-    let fields : List ℕ = lent_fields c.args.frame.now c.args.h c.args.start c.args.end c.args.sum c.requires in
-    let reads : Reads c.args.h (Is M F N I C) fields = subst (λ (r : Found). Reads c.args.h r fields) c.in-Is.is c.fields_of.ensures in
+pub returns-then-o : goal.returns-then-o
+returns-then-o c =
     let a = c.args in
-    read_right a.frame.now a.h a.start a.end a.sum c.requires reads c.fill.result c.device_of-device.result c.text_start-begin.result
-    (c.device_of-device.ensures ∙ ap device_of c.at.ensures) c.if-sum.true c.text_start-begin.ensures
+    read_right a.frame.now a.o c.requires c.in-Some.ensures c.fill.result c.from.result c.text_start.result
+    (c.from.ensures ∙ ap device_of c.at.ensures) c.if-o.true c.text_start.ensures
     a.«data».now c.fill.new.«data» a.entries.now c.fill.new.entries c.fill.ensures
-
-pub returns-else-sum : goal.returns-else-sum
-returns-else-sum c =
-    let M : UniversalNonRealTimeMsg = c.in-Is.m in
-    let F : ℕ = c.in-Is.from in
-    let N : ℕ = c.in-Is.len in
-    let I : ℕ = c.in-Is.at in
-    let C : ℕ = c.in-Is.count in
-    let fields : List ℕ = lent_fields c.args.frame.now c.args.h c.args.start c.args.end c.args.sum c.requires in
-    let reads : Reads c.args.h (Is M F N I C) fields = subst (λ (r : Found). Reads c.args.h r fields) c.in-Is.is c.fields_of.ensures in
-    let a = c.args in
-    read_refused _ _ a.frame.now a.«data».now a.entries.now (wrong_says a.frame.now a.h a.start a.end a.sum c.requires reads c.if-sum.false)
-
-pub returns-in-Nothing : goal.returns-in-Nothing
-returns-in-Nothing c = let a = c.args in
-    read_refused _ _ a.frame.now a.«data».now a.entries.now
-    (none_says a.frame.now a.h a.start a.end a.sum c.requires (subst (λ (r : Found). Reads a.h r (lent_fields a.frame.now a.h a.start a.end a.sum c.requires)) c.in-Nothing.is c.fields_of.ensures))

@@ -15,8 +15,8 @@ use Rattle.reader.proofs.test.is_body.Goals as goal
 pub returns-then-is_brief : goal.returns-then-is_brief
 returns-then-is_brief c = brief_body c.args.kind c.args.mid.now c.requires.0 c.if-mid-eq4.true c.requires.2 (sym c.is_brief.ensures ∙ c.if-is_brief.true)
 
-pub is_header-requires : goal.is_header-requires
-is_header-requires c = seven_take (length c.args.mid.now - 3) (drop 3 c.args.mid.now) (seven_drop 3 c.args.mid.now c.requires.0)
+pub invariant_of-is_header : goal.invariant_of-is_header
+invariant_of-is_header c = seven_take (length c.args.mid.now - 3) (drop 3 c.args.mid.now) (seven_drop 3 c.args.mid.now c.requires.0)
 
 pub returns-then-mid-eq1 : goal.returns-then-mid-eq1
 returns-then-mid-eq1 c = let mid = c.args.mid.now in
