@@ -7,13 +7,11 @@ use native.Mathlib.Omega.{arith}
 use lib.ListN.{length}
 use Rattle.util.specs.Groups.{groups}
 use Rattle.util.specs.Splice.{overwritten}
-use Rattle.messages.specs.declared.file_reference.SelectMap.{SelectMap}
-use Rattle.messages.specs.declared.file_reference.SelectMap.TheVariants as select
 use Rattle.messages.specs.declared.system_exclusive.ManufacturerID.{ManufacturerID}
 use Rattle.messages.specs.declared.sample_dump.SampleDumpMsg.{SampleDumpMsg}
 use Rattle.messages.specs.declared.sample_dump.ExtendedSampleDumpMsg.{ExtendedSampleDumpMsg}
 use Rattle.messages.specs.declared.file_dump.FileDumpMsg.{FileDumpMsg}
-use Rattle.messages.specs.declared.tuning.TuningBank.{TuningBank}
+use Rattle.std.specs.Prelude.{Option, Some, None}
 use Rattle.messages.specs.declared.general_midi.GeneralMidi.{GeneralMidi}
 use Rattle.messages.specs.declared.file_reference.FileReferenceMsg.{FileReferenceMsg}
 use Rattle.messages.specs.declared.system_exclusive.UniversalNonRealTimeMsg.{UniversalNonRealTimeMsg}
@@ -21,11 +19,10 @@ use Rattle.messages.specs.declared.system_exclusive.ManufacturerID.TheVariants.{
 use Rattle.messages.specs.declared.sample_dump.SampleDumpMsg.TheVariants as sample
 use Rattle.messages.specs.declared.sample_dump.ExtendedSampleDumpMsg.TheVariants as extended
 use Rattle.messages.specs.declared.file_dump.FileDumpMsg.TheVariants as file
-use Rattle.messages.specs.declared.tuning.TuningBank.TheVariants.{NoBank, Bank}
 use Rattle.messages.specs.declared.general_midi.GeneralMidi.TheVariants.{GM1, Off, GM2}
 use Rattle.messages.specs.declared.file_reference.FileReferenceMsg.TheVariants as reference
 use Rattle.messages.specs.declared.system_exclusive.UniversalNonRealTimeMsg.TheVariants as msg
-use Rattle.write_fronts.specs.Fronts.{map_length, front_sample, front_extended, front_maker, front_file, front_request, front_keys, front_midi, front_reference, front_of}
+use Rattle.write_fronts.specs.Fronts.{front_sample, front_extended, front_maker, front_file, front_request, front_keys, front_midi, front_reference, front_of}
 use Rattle.write_fronts.specs.Sizes.{size_sample, size_extended, size_maker, size_file, size_bank, size_reference, front_size}
 
 -- after the last field
@@ -36,6 +33,10 @@ done = refl
 pub code : (b : ℕ) {l m : List ℕ} → l ≡ m → b ∷ l ≡ b ∷ m
 code b f = ap (λ (y : List ℕ). b ∷ y) f
 
+-- a byte of a field, with the bytes after it
+pub byte : {r v : ℕ} {l m : List ℕ} → r ≡ v → l ≡ m → r ∷ l ≡ v ∷ m
+byte e f = ap₂ (λ (x : ℕ) (y : List ℕ). x ∷ y) e f
+
 -- a field of k groups, with the fields after it
 pub field : (k : ℕ) {r v : ℕ} {l m : List ℕ} → r ≡ v → l ≡ m → groups k r ++ l ≡ groups k v ++ m
 field k e f = ap₂ (λ (x : ℕ) (y : List ℕ). groups k x ++ y) e f
@@ -43,13 +44,6 @@ field k e f = ap₂ (λ (x : ℕ) (y : List ℕ). groups k x ++ y) e f
 -- bytes written that are those of a front
 pub put : {bs cs ys : List ℕ} (xs : List ℕ) → bs ≡ cs → ys ≡ overwritten bs xs → ys ≡ overwritten cs xs
 put xs f e = e ∙ ap (λ (l : List ℕ). overwritten l xs) f
-
--- no map is longer than 127 maps of a sound file with their number
-pub map_small : (m : SelectMap) (y : ℕ) → map_length m y ≤ 1017
-map_small select.SoundFile y = omega arith
-map_small (select.WAV m) y = omega arith
-map_small (select.SoundFileBankOffset o d) y = omega arith
-map_small (select.WAVBankOffset m o d) y = omega arith
 
 -- ---- how long the front of a message is
 
@@ -77,13 +71,13 @@ file_length d (file.Header s t l) = refl
 file_length d (file.Packet c) = refl
 file_length d (file.Request r t) = refl
 
-request_length : (d p : ℕ) (b : TuningBank) → length (front_request d b p) ≡ size_bank b
-request_length d p NoBank = refl
-request_length d p (Bank b) = refl
+request_length : (d p : ℕ) (b : Option ℕ) → length (front_request d b p) ≡ size_bank b
+request_length d p None = refl
+request_length d p (Some b) = refl
 
-keys_length : (d p : ℕ) (b : TuningBank) → length (front_keys d b p) ≡ size_bank b
-keys_length d p NoBank = refl
-keys_length d p (Bank b) = refl
+keys_length : (d p : ℕ) (b : Option ℕ) → length (front_keys d b p) ≡ size_bank b
+keys_length d p None = refl
+keys_length d p (Some b) = refl
 
 midi_length : (d : ℕ) (g : GeneralMidi) → length (front_midi d g) ≡ 4
 midi_length d GM1 = refl
@@ -101,8 +95,8 @@ front_length d (msg.SampleDump m) x y = sample_length d m
 front_length d (msg.ExtendedSampleDump m) x y = extended_length d m
 front_length d msg.IdentityRequest x y = refl
 front_length d (msg.IdentityReply r) x y =
-    maker_length d r.family r.family_member r.software_revision.first r.software_revision.second
-    r.software_revision.third r.software_revision.fourth r.id
+    maker_length d r.family r.family_member r.software_revision.0 r.software_revision.1
+    r.software_revision.2 r.software_revision.3 r.id
 front_length d (msg.FileDump m) x y = file_length d m
 front_length d (msg.TuningBulkDumpRequest b p) x y = request_length d p b
 front_length d (msg.KeyBasedTuningDump k) x y = keys_length d k.tuning_program_num k.tuning_bank_num
@@ -123,9 +117,9 @@ maker_small : (m : ManufacturerID) → size_maker m ≤ 32
 maker_small (OneByte k) = omega arith
 maker_small (Extended k l) = omega arith
 
-bank_small : (b : TuningBank) → size_bank b ≤ 32
-bank_small NoBank = omega arith
-bank_small (Bank b) = omega arith
+bank_small : (b : Option ℕ) → size_bank b ≤ 32
+bank_small None = omega arith
+bank_small (Some b) = omega arith
 
 -- no front is longer than 32 bytes
 pub front_small : (m : UniversalNonRealTimeMsg) → front_size m ≤ 32

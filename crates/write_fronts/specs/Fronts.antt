@@ -1,11 +1,10 @@
 -- The front of each message: from 7E up to the first part of no fixed number of fields, as fields of so many groups each.
-use Rattle.std.specs.Prelude.{List, [], ◌∷◌, ◌++◌, ℕ, ◌+◌, ◌*◌, ◌/◌, ◌%◌, min, max}
+use Rattle.std.specs.Prelude.{Option, Some, None, List, [], ◌∷◌, ◌++◌, ℕ, ◌+◌, ◌*◌, ◌/◌, ◌%◌, min, max}
 use Rattle.util.specs.Groups.{groups, held}
 use Rattle.messages.specs.declared.system_exclusive.ManufacturerID.{ManufacturerID}
 use Rattle.messages.specs.declared.sample_dump.SampleDumpMsg.{SampleDumpMsg}
 use Rattle.messages.specs.declared.sample_dump.ExtendedSampleDumpMsg.{ExtendedSampleDumpMsg}
 use Rattle.messages.specs.declared.file_dump.FileDumpMsg.{FileDumpMsg}
-use Rattle.messages.specs.declared.tuning.TuningBank.{TuningBank}
 use Rattle.messages.specs.declared.general_midi.GeneralMidi.{GeneralMidi}
 use Rattle.messages.specs.declared.file_reference.SelectMap.{SelectMap}
 use Rattle.messages.specs.declared.file_reference.FileReferenceMsg.{FileReferenceMsg}
@@ -15,7 +14,6 @@ use Rattle.messages.specs.declared.system_exclusive.ManufacturerID.TheVariants.{
 use Rattle.messages.specs.declared.sample_dump.SampleDumpMsg.TheVariants as sample
 use Rattle.messages.specs.declared.sample_dump.ExtendedSampleDumpMsg.TheVariants as extended
 use Rattle.messages.specs.declared.file_dump.FileDumpMsg.TheVariants as file
-use Rattle.messages.specs.declared.tuning.TuningBank.TheVariants.{NoBank, Bank}
 use Rattle.messages.specs.declared.general_midi.GeneralMidi.TheVariants.{GM1, Off, GM2}
 use Rattle.messages.specs.declared.file_reference.SelectMap.TheVariants as select
 use Rattle.messages.specs.declared.file_reference.FileReferenceMsg.TheVariants as reference
@@ -65,7 +63,7 @@ front_maker d (Extended a b) l = start_2 d 0x06 0x02 ((1, 0) ∷ (1, a) ∷ (1, 
 abbrev pub front_reply : ℕ → IdentityReply → List ℕ
 front_reply d r =
     front_maker d r.id
-    ((2, r.family) ∷ (2, r.family_member) ∷ (1, r.software_revision.first) ∷ (1, r.software_revision.second) ∷ (1, r.software_revision.third) ∷ (1, r.software_revision.fourth) ∷ [])
+    ((2, r.family) ∷ (2, r.family_member) ∷ (1, r.software_revision.0) ∷ (1, r.software_revision.1) ∷ (1, r.software_revision.2) ∷ (1, r.software_revision.3) ∷ [])
 
 abbrev pub letters : Four → List (ℕ × ℕ) → List (ℕ × ℕ)
 letters x l = (1, x.0) ∷ (1, x.1.0) ∷ (1, x.1.1.0) ∷ (1, x.1.1.1) ∷ l
@@ -75,13 +73,13 @@ front_file d (file.Header s t l) = start_2 d 0x07 0x01 ((1, device_byte s) ∷ l
 front_file d (file.Packet c) = start_2 d 0x07 0x02 ((1, c) ∷ [])
 front_file d (file.Request r t) = start_2 d 0x07 0x03 ((1, device_byte r) ∷ letters (type_chars t) [])
 
-abbrev pub front_request : ℕ → TuningBank → ℕ → List ℕ
-front_request d NoBank p = start_2 d 0x08 0x00 ((1, p) ∷ [])
-front_request d (Bank b) p = start_2 d 0x08 0x03 ((1, b) ∷ (1, p) ∷ [])
+abbrev pub front_request : ℕ → Option ℕ → ℕ → List ℕ
+front_request d None p = start_2 d 0x08 0x00 ((1, p) ∷ [])
+front_request d (Some b) p = start_2 d 0x08 0x03 ((1, b) ∷ (1, p) ∷ [])
 
-abbrev pub front_keys : ℕ → TuningBank → ℕ → List ℕ
-front_keys d NoBank p = start_2 d 0x08 0x01 ((1, p) ∷ [])
-front_keys d (Bank b) p = start_2 d 0x08 0x04 ((1, b) ∷ (1, p) ∷ [])
+abbrev pub front_keys : ℕ → Option ℕ → ℕ → List ℕ
+front_keys d None p = start_2 d 0x08 0x01 ((1, p) ∷ [])
+front_keys d (Some b) p = start_2 d 0x08 0x04 ((1, b) ∷ (1, p) ∷ [])
 
 -- the three channel bytes of a set
 abbrev pub channel_fields : ℕ → List (ℕ × ℕ)

@@ -1,17 +1,15 @@
 -- How many bytes the front of each message has.
-use Rattle.std.specs.Prelude.{ℕ}
+use Rattle.std.specs.Prelude.{Option, Some, None, ℕ}
 use Rattle.messages.specs.declared.system_exclusive.ManufacturerID.{ManufacturerID}
 use Rattle.messages.specs.declared.sample_dump.SampleDumpMsg.{SampleDumpMsg}
 use Rattle.messages.specs.declared.sample_dump.ExtendedSampleDumpMsg.{ExtendedSampleDumpMsg}
 use Rattle.messages.specs.declared.file_dump.FileDumpMsg.{FileDumpMsg}
-use Rattle.messages.specs.declared.tuning.TuningBank.{TuningBank}
 use Rattle.messages.specs.declared.file_reference.FileReferenceMsg.{FileReferenceMsg}
 use Rattle.messages.specs.declared.system_exclusive.UniversalNonRealTimeMsg.{UniversalNonRealTimeMsg}
 use Rattle.messages.specs.declared.system_exclusive.ManufacturerID.TheVariants.{OneByte, Extended}
 use Rattle.messages.specs.declared.sample_dump.SampleDumpMsg.TheVariants as sample
 use Rattle.messages.specs.declared.sample_dump.ExtendedSampleDumpMsg.TheVariants as extended
 use Rattle.messages.specs.declared.file_dump.FileDumpMsg.TheVariants as file
-use Rattle.messages.specs.declared.tuning.TuningBank.TheVariants.{NoBank, Bank}
 use Rattle.messages.specs.declared.file_reference.FileReferenceMsg.TheVariants as reference
 use Rattle.messages.specs.declared.system_exclusive.UniversalNonRealTimeMsg.TheVariants as msg
 
@@ -38,9 +36,9 @@ size_file (file.Header s t l) = 13
 size_file (file.Packet c) = 5
 size_file (file.Request r t) = 9
 
-abbrev pub size_bank : TuningBank → ℕ
-size_bank NoBank = 5
-size_bank (Bank b) = 6
+abbrev pub size_bank : Option ℕ → ℕ
+size_bank None = 5
+size_bank (Some b) = 6
 
 abbrev pub size_reference : FileReferenceMsg → ℕ
 size_reference (reference.Open c t) = 12

@@ -10,7 +10,6 @@ use messages::file_dump::FileDumpMsg;
 use messages::file_reference::FileReferenceMsg;
 use messages::sample_dump::{ExtendedSampleDumpMsg, SampleDumpMsg};
 use messages::system_exclusive::{ManufacturerID, UniversalNonRealTimeMsg};
-use messages::tuning::TuningBank;
 
 pub mod extended_sample_dump;
 pub mod file_dump;
@@ -68,12 +67,12 @@ fn size_file(m: FileDumpMsg) -> usize
 }
 
 // How many bytes a bulk request, or the front of a key dump, has.
-fn size_bank(bank: TuningBank) -> usize
+fn size_bank(bank: Option<u8>) -> usize
     ensures { result ≡ size_bank bank }
 {
     match bank {
-        TuningBank::NoBank => 5,
-        TuningBank::Bank(_) => 6,
+        None => 5,
+        Some(_) => 6,
     }
 }
 
@@ -97,19 +96,13 @@ pub fn front_size(m: UniversalNonRealTimeMsg) -> usize
         UniversalNonRealTimeMsg::SampleDump(s) => size_sample(s),
         UniversalNonRealTimeMsg::ExtendedSampleDump(s) => size_extended(s),
         UniversalNonRealTimeMsg::IdentityRequest => 4,
-        UniversalNonRealTimeMsg::IdentityReply(i) => {
-            let id = i.id;
-            size_maker(id)
-        }
+        UniversalNonRealTimeMsg::IdentityReply(i) => size_maker(i.id),
         UniversalNonRealTimeMsg::FileDump(f) => size_file(f),
         UniversalNonRealTimeMsg::TuningBulkDumpRequest {
             tuning_bank_num,
             tuning_program_num: _,
         } => size_bank(tuning_bank_num),
-        UniversalNonRealTimeMsg::KeyBasedTuningDump(k) => {
-            let bank = k.tuning_bank_num;
-            size_bank(bank)
-        }
+        UniversalNonRealTimeMsg::KeyBasedTuningDump(k) => size_bank(k.tuning_bank_num),
         UniversalNonRealTimeMsg::ScaleTuningDump1Byte(_) => 6,
         UniversalNonRealTimeMsg::ScaleTuningDump2Byte(_) => 6,
         UniversalNonRealTimeMsg::TuningNoteChange(_) => 6,
@@ -142,10 +135,12 @@ pub fn put_front(out: &mut [u8], d: u64, m: UniversalNonRealTimeMsg, x: usize, y
             tuning_bank_num,
             tuning_program_num,
         } => tuning::put_request(out, d, tuning_bank_num, tuning_program_num),
-        UniversalNonRealTimeMsg::KeyBasedTuningDump(k) => {
-            let bank = k.tuning_bank_num;
-            tuning::put_keys(out, d, bank, k.tuning_program_num)
-        }
+        UniversalNonRealTimeMsg::KeyBasedTuningDump(k) => tuning::put_keys(
+            out,
+            d,
+            k.tuning_bank_num,
+            k.tuning_program_num,
+        ),
         UniversalNonRealTimeMsg::ScaleTuningDump1Byte(s) => tuning::put_bank_program(
             out,
             d,
@@ -160,10 +155,12 @@ pub fn put_front(out: &mut [u8], d: u64, m: UniversalNonRealTimeMsg, x: usize, y
             s.tuning_bank_num,
             s.tuning_program_num,
         ),
-        UniversalNonRealTimeMsg::TuningNoteChange(c) => {
-            let bank = c.tuning_bank_num;
-            tuning::put_change(out, d, bank, c.tuning_program_num)
-        }
+        UniversalNonRealTimeMsg::TuningNoteChange(c) => tuning::put_change(
+            out,
+            d,
+            c.tuning_bank_num,
+            c.tuning_program_num,
+        ),
         UniversalNonRealTimeMsg::ScaleTuning1Byte(s) => tuning::put_scale(
             out,
             d,

@@ -1,44 +1,15 @@
 // The fronts of sample dumps.
-ghost use Rattle.std.specs.Prelude.{◌≡◌, ◌∷◌, [], ◌++◌, ◌≤◌, length};
+ghost use Rattle.std.specs.Prelude.{◌≡◌, ◌∷◌, [], ◌≤◌, length};
 ghost use Rattle.util.specs.Splice.{overwritten};
-ghost use Rattle.util.specs.Groups.{groups};
 ghost use Rattle.messages.specs.Fields.{loop_value};
 ghost use Rattle.messages.specs.Structures.{loop_byte};
 ghost use Rattle.write_fronts.specs.Fronts.{clamp, start_2, front_sample};
 ghost use Rattle.write_fronts.specs.Sizes.{size_sample};
 
-use crate::values::clamp;
-use messages::sample_dump::{LoopNumber, LoopType, SampleDumpMsg, loop_byte, loop_value};
-use util::{bytes, groups};
-
-// Writes a header from values that are held.
-fn put_held_header(out: &mut [u8], i: u64, n: u64, h: u64, p: u64, l: u64, s: u64, e: u64, k: u64)
-    requires { 19 ≤ length out.old }
-    ensures { out.new ≡ overwritten (0x7E ∷ groups 1 i ++ (0x01 ∷ groups 2 n ++ (groups 1 h ++ (groups 3 p ++ (groups 3 l ++ (groups 3 s ++ (groups 3 e ++ groups 1 k))))))) out.old }
-{
-    let row = [
-        0x7E,
-        (i % 128) as u8,
-        0x01,
-        (n % 128) as u8,
-        (n / 128 % 128) as u8,
-        (h % 128) as u8,
-        (p % 128) as u8,
-        (p / 128 % 128) as u8,
-        (p / 128 / 128 % 128) as u8,
-        (l % 128) as u8,
-        (l / 128 % 128) as u8,
-        (l / 128 / 128 % 128) as u8,
-        (s % 128) as u8,
-        (s / 128 % 128) as u8,
-        (s / 128 / 128 % 128) as u8,
-        (e % 128) as u8,
-        (e / 128 % 128) as u8,
-        (e / 128 / 128 % 128) as u8,
-        (k % 128) as u8,
-    ];
-    bytes::copy(out, &row);
-}
+use crate::values::{LARGEST_U21, clamp};
+use messages::sample_dump::{LoopNumber, LoopType, SampleDumpMsg, loop_value};
+use util::bytes;
+use util::limits::LARGEST_U14;
 
 // Writes a header; f is the format held to its range and t the byte of the loop type.
 pub fn put_header(
@@ -57,15 +28,33 @@ pub fn put_header(
     requires { (19 ≤ length out.old) × (f ≡ clamp 8 28 format) × (t ≡ loop_byte kind) }
     ensures { out.new ≡ overwritten (front_sample d (SampleDumpMsg.Header sample format period len start end kind)) out.old }
 {
-    let i = groups::hold(d, 127);
-    let n = groups::hold(sample as u64, 16383);
-    let h = groups::hold(f, 127);
-    let p = groups::hold(period as u64, 2097151);
-    let l = groups::hold(len as u64, 2097151);
-    let s = groups::hold(start as u64, 2097151);
-    let e = groups::hold(end as u64, 2097151);
-    let k = groups::hold(t, 127);
-    put_held_header(out, i, n, h, p, l, s, e, k);
+    let n = (sample as u64).min(LARGEST_U14);
+    let p = (period as u64).min(LARGEST_U21);
+    let l = (len as u64).min(LARGEST_U21);
+    let first = (start as u64).min(LARGEST_U21);
+    let last = (end as u64).min(LARGEST_U21);
+    let row = [
+        0x7E,
+        d.min(127) as u8,
+        0x01,
+        (n % 128) as u8,
+        (n / 128) as u8,
+        f.min(127) as u8,
+        (p % 128) as u8,
+        (p / 128 % 128) as u8,
+        (p / 128 / 128) as u8,
+        (l % 128) as u8,
+        (l / 128 % 128) as u8,
+        (l / 128 / 128) as u8,
+        (first % 128) as u8,
+        (first / 128 % 128) as u8,
+        (first / 128 / 128) as u8,
+        (last % 128) as u8,
+        (last / 128 % 128) as u8,
+        (last / 128 / 128) as u8,
+        t.min(127) as u8,
+    ];
+    bytes::copy(out, &row);
 }
 
 // Writes a packet of count c.
@@ -73,10 +62,7 @@ pub fn put_packet(out: &mut [u8], d: u64, c: u8)
     requires { 4 ≤ length out.old }
     ensures { out.new ≡ overwritten (front_sample d (SampleDumpMsg.Packet c)) out.old }
 {
-    let i = groups::hold(d, 127);
-    let n = groups::hold(c as u64, 127);
-    let row = [0x7E, (i % 128) as u8, 0x02, (n % 128) as u8];
-    bytes::copy(out, &row);
+    bytes::copy(out, &[0x7E, d.min(127) as u8, 0x02, c.min(127)]);
 }
 
 // Writes a request for sample n.
@@ -84,77 +70,73 @@ fn put_request(out: &mut [u8], d: u64, n: u16)
     requires { 5 ≤ length out.old }
     ensures { out.new ≡ overwritten (front_sample d (SampleDumpMsg.Request n)) out.old }
 {
-    let i = groups::hold(d, 127);
-    let s = groups::hold(n as u64, 16383);
-    let row = [
-        0x7E,
-        (i % 128) as u8,
-        0x03,
-        (s % 128) as u8,
-        (s / 128 % 128) as u8,
-    ];
-    bytes::copy(out, &row);
+    let s = (n as u64).min(LARGEST_U14);
+    bytes::copy(
+        out,
+        &[
+            0x7E,
+            d.min(127) as u8,
+            0x03,
+            (s % 128) as u8,
+            (s / 128) as u8,
+        ],
+    );
 }
 
-// Writes the points of a loop; v is the value of its number and t the byte of its type.
+// Writes the points of a loop.
 fn put_loop_points(
     out: &mut [u8],
     d: u64,
     sample: u16,
-    v: u64,
     number: LoopNumber,
-    t: u64,
     kind: LoopType,
     start: u32,
     end: u32,
 )
-    requires { (15 ≤ length out.old) × (v ≡ loop_value number) × (t ≡ loop_byte kind) }
+    requires { 15 ≤ length out.old }
     ensures { out.new ≡ overwritten (front_sample d (SampleDumpMsg.LoopPointTransmission sample number kind start end)) out.old }
 {
-    let i = groups::hold(d, 127);
-    let n = groups::hold(sample as u64, 16383);
-    let l = groups::hold(v, 16383);
-    let k = groups::hold(t, 127);
-    let s = groups::hold(start as u64, 2097151);
-    let e = groups::hold(end as u64, 2097151);
+    let n = (sample as u64).min(LARGEST_U14);
+    let l = loop_value(number).min(LARGEST_U14);
+    let k = u8::from(kind).min(127);
+    let s = (start as u64).min(LARGEST_U21);
+    let e = (end as u64).min(LARGEST_U21);
     let row = [
         0x7E,
-        (i % 128) as u8,
+        d.min(127) as u8,
         0x05,
         0x01,
         (n % 128) as u8,
-        (n / 128 % 128) as u8,
+        (n / 128) as u8,
         (l % 128) as u8,
-        (l / 128 % 128) as u8,
-        (k % 128) as u8,
+        (l / 128) as u8,
+        k,
         (s % 128) as u8,
         (s / 128 % 128) as u8,
-        (s / 128 / 128 % 128) as u8,
+        (s / 128 / 128) as u8,
         (e % 128) as u8,
         (e / 128 % 128) as u8,
-        (e / 128 / 128 % 128) as u8,
+        (e / 128 / 128) as u8,
     ];
     bytes::copy(out, &row);
 }
 
-// Writes a request for the points of a loop of sample n; b is the second byte of the head and v the value of the number.
-pub fn put_loop_request(out: &mut [u8], d: u64, b: u64, n: u16, v: u64, number: LoopNumber)
-    requires { (8 ≤ length out.old) × (v ≡ loop_value number) }
+// Writes a request for the points of a loop of sample n; b is the second byte of the head.
+pub fn put_loop_request(out: &mut [u8], d: u64, b: u64, n: u16, number: LoopNumber)
+    requires { 8 ≤ length out.old }
     ensures { out.new ≡ overwritten (start_2 d 0x05 b ((2, n) ∷ (2, loop_value number) ∷ [])) out.old }
 {
-    let i = groups::hold(d, 127);
-    let h = groups::hold(b, 127);
-    let s = groups::hold(n as u64, 16383);
-    let l = groups::hold(v, 16383);
+    let s = (n as u64).min(LARGEST_U14);
+    let l = loop_value(number).min(LARGEST_U14);
     let row = [
         0x7E,
-        (i % 128) as u8,
+        d.min(127) as u8,
         0x05,
-        (h % 128) as u8,
+        b.min(127) as u8,
         (s % 128) as u8,
-        (s / 128 % 128) as u8,
+        (s / 128) as u8,
         (l % 128) as u8,
-        (l / 128 % 128) as u8,
+        (l / 128) as u8,
     ];
     bytes::copy(out, &row);
 }
@@ -175,7 +157,7 @@ pub fn put(out: &mut [u8], d: u64, m: SampleDumpMsg)
             loop_type,
         } => {
             let f = clamp(format as u64, 8, 28);
-            let t = loop_byte(loop_type);
+            let t = u8::from(loop_type) as u64;
             put_header(
                 out,
                 d,
@@ -198,19 +180,12 @@ pub fn put(out: &mut [u8], d: u64, m: SampleDumpMsg)
             loop_type,
             start_addr,
             end_addr,
-        } => {
-            let v = loop_value(loop_num);
-            let t = loop_byte(loop_type);
-            put_loop_points(
-                out, d, sample_num, v, loop_num, t, loop_type, start_addr, end_addr,
-            )
-        }
+        } => put_loop_points(
+            out, d, sample_num, loop_num, loop_type, start_addr, end_addr,
+        ),
         SampleDumpMsg::LoopPointsRequest {
             sample_num,
             loop_num,
-        } => {
-            let v = loop_value(loop_num);
-            put_loop_request(out, d, 2, sample_num, v, loop_num)
-        }
+        } => put_loop_request(out, d, 2, sample_num, loop_num),
     }
 }

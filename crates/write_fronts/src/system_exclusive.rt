@@ -7,56 +7,39 @@ ghost use Rattle.write_fronts.specs.Sizes.{size_maker};
 use crate::values::clamp;
 use messages::general_midi::GeneralMidi;
 use messages::system_exclusive::{IdentityReply, ManufacturerID};
-use util::{bytes, groups};
+use util::bytes;
+use util::limits::LARGEST_U14;
 
 // Writes an identity request.
 pub fn put_identity_request(out: &mut [u8], d: u64)
     requires { 4 ≤ length out.old }
     ensures { out.new ≡ overwritten (start_2 d 0x06 0x01 []) out.old }
 {
-    let i = groups::hold(d, 127);
-    let row = [0x7E, (i % 128) as u8, 0x06, 0x01];
-    bytes::copy(out, &row);
+    bytes::copy(out, &[0x7E, d.min(127) as u8, 0x06, 0x01]);
 }
 
-// Writes the reply of a maker with one byte; k is that byte held to its range.
-fn put_one_byte_reply(
-    out: &mut [u8],
-    d: u64,
-    k: u64,
-    b: u8,
-    family: u16,
-    member: u16,
-    first: u8,
-    second: u8,
-    third: u8,
-    fourth: u8,
-)
-    requires { (13 ≤ length out.old) × (k ≡ clamp 1 124 b) }
-    ensures { out.new ≡ overwritten (front_maker d (ManufacturerID.OneByte b) ((2, family) ∷ (2, member) ∷ (1, first) ∷ (1, second) ∷ (1, third) ∷ (1, fourth) ∷ [])) out.old }
+// Writes the reply of a maker with one byte.
+fn put_one_byte_reply(out: &mut [u8], d: u64, b: u8, family: u16, member: u16, v: (u8, u8, u8, u8))
+    requires { 13 ≤ length out.old }
+    ensures { out.new ≡ overwritten (front_maker d (ManufacturerID.OneByte b) ((2, family) ∷ (2, member) ∷ (1, v.0) ∷ (1, v.1) ∷ (1, v.2) ∷ (1, v.3) ∷ [])) out.old }
 {
-    let i = groups::hold(d, 127);
-    let h = groups::hold(k, 127);
-    let f = groups::hold(family as u64, 16383);
-    let m = groups::hold(member as u64, 16383);
-    let p = groups::hold(first as u64, 127);
-    let q = groups::hold(second as u64, 127);
-    let r = groups::hold(third as u64, 127);
-    let s = groups::hold(fourth as u64, 127);
+    let (first, second, third, fourth) = v;
+    let f = (family as u64).min(LARGEST_U14);
+    let m = (member as u64).min(LARGEST_U14);
     let row = [
         0x7E,
-        (i % 128) as u8,
+        d.min(127) as u8,
         0x06,
         0x02,
-        (h % 128) as u8,
+        clamp(b as u64, 1, 124) as u8,
         (f % 128) as u8,
-        (f / 128 % 128) as u8,
+        (f / 128) as u8,
         (m % 128) as u8,
-        (m / 128 % 128) as u8,
-        (p % 128) as u8,
-        (q % 128) as u8,
-        (r % 128) as u8,
-        (s % 128) as u8,
+        (m / 128) as u8,
+        first.min(127),
+        second.min(127),
+        third.min(127),
+        fourth.min(127),
     ];
     bytes::copy(out, &row);
 }
@@ -69,52 +52,40 @@ fn put_extended_reply(
     b: u8,
     family: u16,
     member: u16,
-    first: u8,
-    second: u8,
-    third: u8,
-    fourth: u8,
+    v: (u8, u8, u8, u8),
 )
     requires { 15 ≤ length out.old }
-    ensures { out.new ≡ overwritten (front_maker d (ManufacturerID.Extended a b) ((2, family) ∷ (2, member) ∷ (1, first) ∷ (1, second) ∷ (1, third) ∷ (1, fourth) ∷ [])) out.old }
+    ensures { out.new ≡ overwritten (front_maker d (ManufacturerID.Extended a b) ((2, family) ∷ (2, member) ∷ (1, v.0) ∷ (1, v.1) ∷ (1, v.2) ∷ (1, v.3) ∷ [])) out.old }
 {
-    let i = groups::hold(d, 127);
-    let h = groups::hold(a as u64, 127);
-    let k = groups::hold(b as u64, 127);
-    let f = groups::hold(family as u64, 16383);
-    let m = groups::hold(member as u64, 16383);
-    let p = groups::hold(first as u64, 127);
-    let q = groups::hold(second as u64, 127);
-    let r = groups::hold(third as u64, 127);
-    let s = groups::hold(fourth as u64, 127);
+    let (first, second, third, fourth) = v;
+    let f = (family as u64).min(LARGEST_U14);
+    let m = (member as u64).min(LARGEST_U14);
     let row = [
         0x7E,
-        (i % 128) as u8,
+        d.min(127) as u8,
         0x06,
         0x02,
         0x00,
-        (h % 128) as u8,
-        (k % 128) as u8,
+        a.min(127),
+        b.min(127),
         (f % 128) as u8,
-        (f / 128 % 128) as u8,
+        (f / 128) as u8,
         (m % 128) as u8,
-        (m / 128 % 128) as u8,
-        (p % 128) as u8,
-        (q % 128) as u8,
-        (r % 128) as u8,
-        (s % 128) as u8,
+        (m / 128) as u8,
+        first.min(127),
+        second.min(127),
+        third.min(127),
+        fourth.min(127),
     ];
     bytes::copy(out, &row);
 }
 
 // Writes General MIDI turned on or off; b is the second byte of the head.
-fn put_midi(out: &mut [u8], d: u64, b: u64)
+fn put_midi(out: &mut [u8], d: u64, b: u8)
     requires { 4 ≤ length out.old }
     ensures { out.new ≡ overwritten (start_2 d 0x09 b []) out.old }
 {
-    let i = groups::hold(d, 127);
-    let h = groups::hold(b, 127);
-    let row = [0x7E, (i % 128) as u8, 0x09, (h % 128) as u8];
-    bytes::copy(out, &row);
+    bytes::copy(out, &[0x7E, d.min(127) as u8, 0x09, b.min(127)]);
 }
 
 // Writes a handshake message with the number n of a packet; a is the head.
@@ -122,11 +93,7 @@ pub fn put_handshake(out: &mut [u8], d: u64, a: u64, n: u8)
     requires { 4 ≤ length out.old }
     ensures { out.new ≡ overwritten (start_1 d a ((1, n) ∷ [])) out.old }
 {
-    let i = groups::hold(d, 127);
-    let h = groups::hold(a, 127);
-    let k = groups::hold(n as u64, 127);
-    let row = [0x7E, (i % 128) as u8, (h % 128) as u8, (k % 128) as u8];
-    bytes::copy(out, &row);
+    bytes::copy(out, &[0x7E, d.min(127) as u8, a.min(127) as u8, n.min(127)]);
 }
 
 // Writes an identity reply.
@@ -134,24 +101,9 @@ pub fn put_identity_reply(out: &mut [u8], d: u64, r: IdentityReply)
     requires { size_maker r.id ≤ length out.old }
     ensures { out.new ≡ overwritten (front_reply d r) out.old }
 {
-    let id = r.id;
     let v = r.software_revision;
-    match id {
-        ManufacturerID::OneByte(b) => {
-            let k = clamp(b as u64, 1, 124);
-            put_one_byte_reply(
-                out,
-                d,
-                k,
-                b,
-                r.family,
-                r.family_member,
-                v.first,
-                v.second,
-                v.third,
-                v.fourth,
-            )
-        }
+    match r.id {
+        ManufacturerID::OneByte(b) => put_one_byte_reply(out, d, b, r.family, r.family_member, v),
         ManufacturerID::Extended(a, b) => put_extended_reply(
             out,
             d,
@@ -159,10 +111,7 @@ pub fn put_identity_reply(out: &mut [u8], d: u64, r: IdentityReply)
             b,
             r.family,
             r.family_member,
-            v.first,
-            v.second,
-            v.third,
-            v.fourth,
+            v,
         ),
     }
 }

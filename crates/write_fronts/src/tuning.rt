@@ -5,62 +5,29 @@ ghost use Rattle.messages.specs.Fields.{bank_number};
 ghost use Rattle.write_fronts.specs.Fronts.{start_2, channel_fields, front_request, front_keys};
 ghost use Rattle.write_fronts.specs.Sizes.{size_bank};
 
-use messages::tuning::{TuningBank, bank_number};
-use util::{bytes, groups};
+use messages::tuning::bank_number;
+use util::bytes;
 
 // Writes a bulk request or the front of a key dump for no bank; b is the second byte of the head.
-fn put_program(out: &mut [u8], d: u64, b: u64, p: u8)
+fn put_program(out: &mut [u8], d: u64, b: u8, p: u8)
     requires { 5 ≤ length out.old }
     ensures { out.new ≡ overwritten (start_2 d 0x08 b ((1, p) ∷ [])) out.old }
 {
-    let i = groups::hold(d, 127);
-    let h = groups::hold(b, 127);
-    let n = groups::hold(p as u64, 127);
-    let row = [
-        0x7E,
-        (i % 128) as u8,
-        0x08,
-        (h % 128) as u8,
-        (n % 128) as u8,
-    ];
-    bytes::copy(out, &row);
+    bytes::copy(out, &[0x7E, d.min(127) as u8, 0x08, b.min(127), p.min(127)]);
 }
 
-// Writes a bulk request, or the front of a key dump or a scale dump, for bank n; b is the second byte of the head.
+// Writes a bulk request, or the front of a key dump, a scale dump or a note change, for bank n; b is the second byte of the head.
 pub fn put_bank_program(out: &mut [u8], d: u64, b: u64, n: u8, p: u8)
     requires { 6 ≤ length out.old }
     ensures { out.new ≡ overwritten (start_2 d 0x08 b ((1, n) ∷ (1, p) ∷ [])) out.old }
 {
-    let i = groups::hold(d, 127);
-    let h = groups::hold(b, 127);
-    let k = groups::hold(n as u64, 127);
-    let q = groups::hold(p as u64, 127);
     let row = [
         0x7E,
-        (i % 128) as u8,
+        d.min(127) as u8,
         0x08,
-        (h % 128) as u8,
-        (k % 128) as u8,
-        (q % 128) as u8,
-    ];
-    bytes::copy(out, &row);
-}
-
-// Writes the front of a note change; b is the number of the bank.
-fn put_bank_change(out: &mut [u8], d: u64, b: u64, bank: TuningBank, p: u8)
-    requires { (6 ≤ length out.old) × (b ≡ bank_number bank) }
-    ensures { out.new ≡ overwritten (start_2 d 0x08 0x07 ((1, bank_number bank) ∷ (1, p) ∷ [])) out.old }
-{
-    let i = groups::hold(d, 127);
-    let k = groups::hold(b, 127);
-    let q = groups::hold(p as u64, 127);
-    let row = [
-        0x7E,
-        (i % 128) as u8,
-        0x08,
-        0x07,
-        (k % 128) as u8,
-        (q % 128) as u8,
+        b.min(127) as u8,
+        n.min(127),
+        p.min(127),
     ];
     bytes::copy(out, &row);
 }
@@ -70,50 +37,48 @@ pub fn put_scale(out: &mut [u8], d: u64, b: u64, s: u16)
     requires { 7 ≤ length out.old }
     ensures { out.new ≡ overwritten (start_2 d 0x08 b (channel_fields s)) out.old }
 {
-    let i = groups::hold(d, 127);
-    let h = groups::hold(b, 127);
-    let k = groups::hold(s as u64 / 16384, 127);
-    let l = groups::hold(s as u64 % 16384 / 128, 127);
-    let m = groups::hold(s as u64 % 128, 127);
     let row = [
         0x7E,
-        (i % 128) as u8,
+        d.min(127) as u8,
         0x08,
-        (h % 128) as u8,
-        (k % 128) as u8,
-        (l % 128) as u8,
-        (m % 128) as u8,
+        b.min(127) as u8,
+        (s / 16384) as u8,
+        (s % 16384 / 128) as u8,
+        (s % 128) as u8,
     ];
     bytes::copy(out, &row);
 }
 
 // Writes a bulk request.
-pub fn put_request(out: &mut [u8], d: u64, bank: TuningBank, p: u8)
+pub fn put_request(out: &mut [u8], d: u64, bank: Option<u8>, p: u8)
     requires { size_bank bank ≤ length out.old }
     ensures { out.new ≡ overwritten (front_request d bank p) out.old }
 {
     match bank {
-        TuningBank::NoBank => put_program(out, d, 0, p),
-        TuningBank::Bank(n) => put_bank_program(out, d, 3, n, p),
+        None => put_program(out, d, 0, p),
+        Some(n) => put_bank_program(out, d, 3, n, p),
     }
 }
 
 // Writes the front of a key dump.
-pub fn put_keys(out: &mut [u8], d: u64, bank: TuningBank, p: u8)
+pub fn put_keys(out: &mut [u8], d: u64, bank: Option<u8>, p: u8)
     requires { size_bank bank ≤ length out.old }
     ensures { out.new ≡ overwritten (front_keys d bank p) out.old }
 {
     match bank {
-        TuningBank::NoBank => put_program(out, d, 1, p),
-        TuningBank::Bank(n) => put_bank_program(out, d, 4, n, p),
+        None => put_program(out, d, 1, p),
+        Some(n) => put_bank_program(out, d, 4, n, p),
     }
 }
 
 // Writes the front of a note change.
-pub fn put_change(out: &mut [u8], d: u64, bank: TuningBank, p: u8)
+pub fn put_change(out: &mut [u8], d: u64, bank: Option<u8>, p: u8)
     requires { 6 ≤ length out.old }
     ensures { out.new ≡ overwritten (start_2 d 0x08 0x07 ((1, bank_number bank) ∷ (1, p) ∷ [])) out.old }
 {
-    let b = bank_number(bank);
-    put_bank_change(out, d, b, bank, p);
+    let k = bank_number(bank).min(127);
+    bytes::copy(
+        out,
+        &[0x7E, d.min(127) as u8, 0x08, 0x07, k as u8, p.min(127)],
+    );
 }

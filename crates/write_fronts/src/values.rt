@@ -3,28 +3,34 @@ ghost use Rattle.std.specs.Prelude.{◌≡◌, ◌+◌, ◌*◌, min};
 ghost use Rattle.write_fronts.specs.Fronts.{clamp, map_length};
 
 use messages::file_reference::SelectMap;
-use util::bytes::at_most;
+use util::limits::{MOST_COUNTED, MOST_URL};
+
+// The largest values of three, four and five groups.
+pub const LARGEST_U21: u64 = 2097151;
+
+pub const LARGEST_U28: u64 = 268435455;
+
+pub const LARGEST_U35: u64 = 34359738367;
 
 // A value held to lo..hi.
 pub fn clamp(v: u64, lo: u64, hi: u64) -> u64
     ensures { result ≡ clamp lo hi v }
 {
-    let m = util::groups::hold(v, hi);
-    if m <= lo { lo } else { m }
+    v.min(hi).max(lo)
 }
 
 // The length of a type and of a URL of x bytes with the 00 after it.
 pub fn url_length(x: usize) -> u64
     ensures { result ≡ 5 + min x 260 }
 {
-    5 + at_most(x, 260) as u64
+    5 + x.min(MOST_URL) as u64
 }
 
 // The length of the maps of a sound file and of the byte with their number, for y entries.
 fn maps_length(y: usize) -> u64
     ensures { result ≡ 1 + 8 * min y 127 }
 {
-    1 + 8 * at_most(y, 127) as u64
+    1 + 8 * y.min(MOST_COUNTED) as u64
 }
 
 // The length of a map, for y entries.

@@ -1,36 +1,57 @@
 // Entries: tunings of keys, and note changes.
-ghost use Rattle.std.specs.Prelude.{◌≡◌, ◌+◌, ◌*◌, ◌≤◌, ◌<◌, min, length, get_or};
+ghost use Rattle.std.specs.Prelude.{◌≡◌, ◌+◌, ◌*◌, ◌≤◌, ◌<◌, List, ℕ, min, length, get_or, refl};
 ghost use Rattle.util.specs.Splice.{overwritten};
 ghost use Rattle.messages.specs.format.Core.{written};
 ghost use Rattle.messages.specs.Fields.{tuning};
 ghost use Rattle.messages.specs.Structures.{key_tuning};
 ghost use Rattle.messages.specs.Entries.{tuning_of, change_of};
 ghost use Rattle.write_lists.specs.Parts.{part_keys, part_changes};
-ghost use Rattle.write_lists.specs.Writing.{items};
 
-use crate::text;
+use crate::format::{Format, put_counted};
+use util::limits::{KEYS, NO_TUNING};
 use util::{fields, groups};
 
-// Writes the tuning of an entry: from 2^24 on there is none.
-pub fn put_tuning_entry(out: &mut [u8], e: u64)
-    requires { 3 ≤ length out.old }
-    ensures { out.new ≡ overwritten (written tuning (tuning_of e)) out.old }
-{
-    if e < 16777216 {
-        fields::put_tuning(out, (e / 65536) as u8, (e % 65536) as u16);
-    } else {
-        fields::put_no_tuning(out);
+// The tuning of an entry: from 2^24 on there is none.
+pub struct TuningEntry;
+
+impl Format for TuningEntry {
+    type Value = u64;
+
+    const SIZE: usize = 3;
+
+    ghost SIZE = { 3 };
+
+    ghost bytes = { λ e. written tuning (tuning_of e) };
+
+    fn put(out: &mut [u8], e: u64) {
+        if e < NO_TUNING {
+            fields::put_tuning(out, (e / 65536) as u8, (e % 65536) as u16);
+        } else {
+            fields::put_no_tuning(out);
+        }
     }
+
+    ghost sized = { λ e. refl };
 }
 
-// Writes the note change of an entry: a key and a tuning.
-pub fn put_change(out: &mut [u8], e: u64)
-    requires { 4 ≤ length out.old }
-    ensures { out.new ≡ overwritten (written key_tuning (change_of e)) out.old }
-{
-    let key = groups::hold(e / 33554432, 255);
-    groups::put_u7(out, key);
-    put_tuning_entry(&mut out[1..], e % 33554432);
+// The note change of an entry: a key and a tuning.
+pub struct ChangeEntry;
+
+impl Format for ChangeEntry {
+    type Value = u64;
+
+    const SIZE: usize = 4;
+
+    ghost SIZE = { 4 };
+
+    ghost bytes = { λ e. written key_tuning (change_of e) };
+
+    fn put(out: &mut [u8], e: u64) {
+        groups::put_u7(out, (e / 33554432).min(255));
+        TuningEntry::put(&mut out[1..], e % 33554432);
+    }
+
+    ghost sized = { λ e. refl };
 }
 
 // The entry at i; past the end that of the key i itself.
@@ -38,11 +59,7 @@ fn key_at(s: &[u64], i: usize) -> u64
     requires { i < 128 }
     ensures { result ≡ get_or s.now i (i * 65536) }
 {
-    if i < s.len() {
-        s[i]
-    } else {
-        (i as u64) * 65536
-    }
+    s.get(i).copied().unwrap_or(i as u64 * 65536)
 }
 
 // Writes the tunings of 128 keys.
@@ -50,28 +67,8 @@ pub fn put_keys(out: &mut [u8], s: &[u64])
     requires { 384 ≤ length out.old }
     ensures { out.new ≡ overwritten (part_keys s.now) out.old }
 {
-    let mut at = 0;
-    let mut i = 0;
-    while i < 128 {
-        let e = key_at(s, i);
-        put_tuning_entry(&mut out[at..], e);
-        at += 3;
-        i += 1;
-    }
-}
-
-// Writes note changes, one after another.
-fn put_change_list(out: &mut [u8], s: &[u64])
-    requires { (length s.now ≤ 127) × (4 * length s.now ≤ length out.old) }
-    ensures { out.new ≡ overwritten (items key_tuning change_of s.now) out.old }
-{
-    let mut at = 0;
-    let mut i = 0;
-    while i < s.len() {
-        let e = s[i];
-        put_change(&mut out[at..], e);
-        at += 4;
-        i += 1;
+    for i in 0..KEYS {
+        TuningEntry::put(&mut out[3 * i..], key_at(s, i));
     }
 }
 
@@ -80,7 +77,5 @@ pub fn put_changes(out: &mut [u8], s: &[u64])
     requires { 1 + 4 * min (length s.now) 127 ≤ length out.old }
     ensures { out.new ≡ overwritten (part_changes s.now) out.old }
 {
-    let n = util::bytes::at_most(s.len(), 127);
-    out[0] = n as u8;
-    put_change_list(&mut out[1..], &s[..n]);
+    put_counted::<ChangeEntry>(out, s);
 }

@@ -2,10 +2,9 @@
 #![tactic(auto)]
 
 pub mod entries;
+pub mod format;
 pub mod maps;
 pub mod packing;
 pub mod part;
-pub mod places;
-pub mod scales;
 pub mod size;
 pub mod text;

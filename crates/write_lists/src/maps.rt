@@ -1,44 +1,45 @@
 // The maps of file references.
-ghost use Rattle.std.specs.Prelude.{◌≡◌, ◌++◌, ◌+◌, ◌*◌, ◌≤◌, min, length};
+ghost use Rattle.std.specs.Prelude.{◌≡◌, ◌++◌, ◌+◌, ◌*◌, ◌≤◌, List, ℕ, min, length, refl};
 ghost use Rattle.util.specs.Splice.{overwritten};
 ghost use Rattle.messages.specs.format.Core.{written};
-ghost use Rattle.messages.specs.Fields.{bit};
 ghost use Rattle.messages.specs.Maps.{sound_file_map, wav_map};
 ghost use Rattle.messages.specs.Entries.{map_of};
 ghost use Rattle.write_lists.specs.Parts.{part_maps, part_offset, part_select, size_select};
-ghost use Rattle.write_lists.specs.Writing.{items};
 
-use crate::places::{put_i14_at, put_u7_at, put_u14_at};
-use crate::text;
+use crate::format::{Format, put_counted};
 use messages::file_reference::{SelectMap, WAVMap};
+use util::limits::LARGEST_U14;
+use util::{bytes, signed};
 
-// Writes the bank map of an entry.
-pub fn put_map_entry(out: &mut [u8], e: u64)
-    requires { 8 ≤ length out.old }
-    ensures { out.new ≡ overwritten (written sound_file_map (map_of e)) out.old }
-{
-    let flags = e / 512 % 2 + 2 * (e / 256 % 2);
-    put_u14_at(out, 0, e / 4398046511104);
-    put_u7_at(out, 2, e / 17179869184 % 256);
-    put_u14_at(out, 3, e / 262144 % 65536);
-    put_u7_at(out, 5, e / 1024 % 256);
-    put_u7_at(out, 6, flags);
-    put_u7_at(out, 7, e % 256);
-}
+// The bank map of an entry.
+pub struct MapEntry;
 
-// Writes bank maps, one after another.
-fn put_map_list(out: &mut [u8], s: &[u64])
-    requires { (length s.now ≤ 127) × (8 * length s.now ≤ length out.old) }
-    ensures { out.new ≡ overwritten (items sound_file_map map_of s.now) out.old }
-{
-    let mut at = 0;
-    let mut i = 0;
-    while i < s.len() {
-        let e = s[i];
-        put_map_entry(&mut out[at..], e);
-        at += 8;
-        i += 1;
+impl Format for MapEntry {
+    type Value = u64;
+
+    const SIZE: usize = 8;
+
+    ghost SIZE = { 8 };
+
+    ghost bytes = { λ e. written sound_file_map (map_of e) };
+
+    fn put(out: &mut [u8], e: u64) {
+        let target = (e / 4398046511104).min(LARGEST_U14);
+        let source = (e / 262144 % 65536).min(LARGEST_U14);
+        let row = [
+            (target % 128) as u8,
+            (target / 128) as u8,
+            (e / 17179869184 % 256).min(127) as u8,
+            (source % 128) as u8,
+            (source / 128) as u8,
+            (e / 1024 % 256).min(127) as u8,
+            (e / 512 % 2 + 2 * (e / 256 % 2)) as u8,
+            (e % 256).min(127) as u8,
+        ];
+        bytes::copy(out, &row);
     }
+
+    ghost sized = { λ e. refl };
 }
 
 // Writes the number of bank maps, at most 127, and so many of them.
@@ -46,16 +47,7 @@ pub fn put_maps(out: &mut [u8], s: &[u64])
     requires { 1 + 8 * min (length s.now) 127 ≤ length out.old }
     ensures { out.new ≡ overwritten (part_maps s.now) out.old }
 {
-    let n = util::bytes::at_most(s.len(), 127);
-    out[0] = n as u8;
-    put_map_list(&mut out[1..], &s[..n]);
-}
-
-// A flag as a number.
-fn flag(d: bool) -> u64
-    ensures { result ≡ bit d }
-{
-    if d { 1 } else { 0 }
+    put_counted::<MapEntry>(out, s);
 }
 
 // Writes an offset of banks, with its drum flag.
@@ -63,13 +55,17 @@ pub fn put_offset(out: &mut [u8], o: u16, d: bool)
     requires { 7 ≤ length out.old }
     ensures { out.new ≡ overwritten (part_offset o d) out.old }
 {
-    let f = flag(d);
-    out[0] = 0x00;
-    out[1] = 0x00;
-    out[2] = 0x01;
-    out[3] = 0x03;
-    put_u14_at(out, 4, o as u64);
-    put_u7_at(out, 6, f);
+    let bank = (o as u64).min(LARGEST_U14);
+    let row = [
+        0x00,
+        0x00,
+        0x01,
+        0x03,
+        (bank % 128) as u8,
+        (bank / 128) as u8,
+        d as u8,
+    ];
+    bytes::copy(out, &row);
 }
 
 // Writes a WAV map.
@@ -77,13 +73,20 @@ pub fn put_wav(out: &mut [u8], m: WAVMap)
     requires { 9 ≤ length out.old }
     ensures { out.new ≡ overwritten (written wav_map m) out.old }
 {
-    put_u14_at(out, 0, m.dst_bank as u64);
-    put_u7_at(out, 2, m.dst_prog as u64);
-    put_u7_at(out, 3, m.base as u64);
-    put_u7_at(out, 4, m.lokey as u64);
-    put_u7_at(out, 5, m.hikey as u64);
-    put_i14_at(out, 6, m.fine);
-    put_u7_at(out, 8, m.volume as u64);
+    let bank = (m.dst_bank as u64).min(LARGEST_U14);
+    let fine = signed::i_to_u14(m.fine);
+    let row = [
+        (bank % 128) as u8,
+        (bank / 128) as u8,
+        m.dst_prog.min(127),
+        m.base.min(127),
+        m.lokey.min(127),
+        m.hikey.min(127),
+        (fine % 128) as u8,
+        (fine / 128) as u8,
+        m.volume.min(127),
+    ];
+    bytes::copy(out, &row);
 }
 
 // Writes a WAV map and an offset.

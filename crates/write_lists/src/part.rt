@@ -1,21 +1,23 @@
 // What follows the front of a message.
-ghost use Rattle.std.specs.Prelude.{◌≡◌, ◌++◌, ◌+◌, ◌≤◌, min, length};
+ghost use Rattle.std.specs.Prelude.{◌≡◌, ◌++◌, ◌+◌, ◌*◌, ◌≤◌, min, length};
 ghost use Rattle.std.proofs.Math.Option.{none};
 ghost use Rattle.util.specs.Splice.{overwritten};
 ghost use Rattle.messages.specs.format.Core.{written};
 ghost use Rattle.messages.specs.Fields.{name_of_16, url};
-ghost use Rattle.messages.specs.Structures.{scale_1, scale_2};
+ghost use Rattle.messages.specs.Structures.{scale_2};
+ghost use Rattle.write_lists.specs.Writing.{each};
 ghost use Rattle.messages.specs.Contents.{contents};
 ghost use Rattle.messages.specs.MessageOf.{head_file, fields_file, head_of, fields_of};
 ghost use Rattle.write_lists.specs.Parts.{part_sample, part_extended, part_file, part_keys, part_select, part_reference, part_of, size_sample, size_extended, size_file, size_select, size_reference};
 
-use crate::{entries, maps, packing, scales, text};
+use crate::format::{Format, S7, S14, put_each};
+use crate::{entries, maps, packing, text};
 use messages::file_dump::FileDumpMsg;
 use messages::file_reference::{FileReferenceMsg, SelectMap};
 use messages::sample_dump::{ExtendedSampleDumpMsg, SampleDumpMsg};
 use messages::system_exclusive::UniversalNonRealTimeMsg;
-use messages::tuning::{Scale1Byte, Scale2Byte};
 use util::bytes;
+use util::limits::MOST_URL;
 
 // Writes what follows the front of a sample dump message.
 pub fn put_part_sample(out: &mut [u8], m: SampleDumpMsg, text: &[u8])
@@ -66,22 +68,21 @@ fn put_key_dump(out: &mut [u8], text: &[u8], entries: &[u64])
     entries::put_keys(&mut out[16..], entries);
 }
 
-// Writes a name and a scale of one byte each.
-fn put_scale_dump_1(out: &mut [u8], text: &[u8], s: Scale1Byte)
-    requires { 28 ≤ length out.old }
-    ensures { out.new ≡ overwritten (written name_of_16 text.now ++ written scale_1 s) out.old }
+// Writes a name, and values after it.
+fn put_named<F: Format>(out: &mut [u8], text: &[u8], values: &[F::Value])
+    requires { 16 + F.SIZE * length values.now ≤ length out.old }
+    ensures { out.new ≡ overwritten (written name_of_16 text.now ++ each F.bytes values.now) out.old }
 {
     text::put_name_16(out, text);
-    scales::put_scale_1(&mut out[16..], s);
+    put_each::<F>(&mut out[16..], values);
 }
 
 // Writes a name and a scale of two bytes each.
-pub fn put_scale_dump_2(out: &mut [u8], text: &[u8], s: Scale2Byte)
+pub fn put_scale_dump_2(out: &mut [u8], text: &[u8], s: [i16; 12])
     requires { 40 ≤ length out.old }
     ensures { out.new ≡ overwritten (written name_of_16 text.now ++ written scale_2 s) out.old }
 {
-    text::put_name_16(out, text);
-    scales::put_scale_2(&mut out[16..], s);
+    put_named::<S14>(out, text, &s);
 }
 
 // Writes a URL and what a select holds.
@@ -90,7 +91,7 @@ fn put_url_select(out: &mut [u8], m: SelectMap, text: &[u8], entries: &[u64])
     ensures { out.new ≡ overwritten (written url text.now ++ part_select m entries.now) out.old }
 {
     text::put_url(out, text);
-    let at = util::bytes::at_most(text.len(), 260) + 1;
+    let at = text.len().min(MOST_URL) + 1;
     maps::put_select(&mut out[at..], m, entries);
 }
 
@@ -125,23 +126,11 @@ pub fn put_part(out: &mut [u8], m: UniversalNonRealTimeMsg, text: &[u8], entries
         UniversalNonRealTimeMsg::FileDump(x) => put_part_file(out, x, text),
         UniversalNonRealTimeMsg::TuningBulkDumpRequest { .. } => {}
         UniversalNonRealTimeMsg::KeyBasedTuningDump(_) => put_key_dump(out, text, entries),
-        UniversalNonRealTimeMsg::ScaleTuningDump1Byte(d) => {
-            let s = d.tuning;
-            put_scale_dump_1(out, text, s)
-        }
-        UniversalNonRealTimeMsg::ScaleTuningDump2Byte(d) => {
-            let s = d.tuning;
-            put_scale_dump_2(out, text, s)
-        }
+        UniversalNonRealTimeMsg::ScaleTuningDump1Byte(d) => put_named::<S7>(out, text, &d.tuning),
+        UniversalNonRealTimeMsg::ScaleTuningDump2Byte(d) => put_scale_dump_2(out, text, d.tuning),
         UniversalNonRealTimeMsg::TuningNoteChange(_) => entries::put_changes(out, entries),
-        UniversalNonRealTimeMsg::ScaleTuning1Byte(d) => {
-            let s = d.tuning;
-            scales::put_scale_1(out, s)
-        }
-        UniversalNonRealTimeMsg::ScaleTuning2Byte(d) => {
-            let s = d.tuning;
-            scales::put_scale_2(out, s)
-        }
+        UniversalNonRealTimeMsg::ScaleTuning1Byte(d) => put_each::<S7>(out, &d.tuning),
+        UniversalNonRealTimeMsg::ScaleTuning2Byte(d) => put_each::<S14>(out, &d.tuning),
         UniversalNonRealTimeMsg::GeneralMidi(_) => {}
         UniversalNonRealTimeMsg::FileReference(x) => put_part_reference(out, x, text, entries),
         UniversalNonRealTimeMsg::EOF => {}

@@ -2,11 +2,11 @@
 ghost use Rattle.std.specs.Prelude.{◌≡◌, ◌<◌, ◌^◌};
 ghost use Rattle.write_lists.specs.Parts.{size_sample, size_extended, size_file, size_select, size_reference, part_size};
 
-use crate::text;
 use messages::file_dump::FileDumpMsg;
 use messages::file_reference::{FileReferenceMsg, SelectMap};
 use messages::sample_dump::{ExtendedSampleDumpMsg, SampleDumpMsg};
 use messages::system_exclusive::UniversalNonRealTimeMsg;
+use util::limits::{MOST_COUNTED, MOST_URL};
 
 // How many bytes follow the front of a sample dump message.
 fn size_sample(m: SampleDumpMsg) -> usize
@@ -26,7 +26,7 @@ fn size_extended(m: ExtendedSampleDumpMsg, x: usize) -> usize
     ensures { result ≡ size_extended m x }
 {
     match m {
-        ExtendedSampleDumpMsg::SampleName { .. } => 1 + util::bytes::at_most(x, 127),
+        ExtendedSampleDumpMsg::SampleName { .. } => 1 + x.min(MOST_COUNTED),
         ExtendedSampleDumpMsg::SampleNameRequest { .. } => 0,
         ExtendedSampleDumpMsg::Header { .. } => 0,
         ExtendedSampleDumpMsg::LoopPointTransmission { .. } => 0,
@@ -51,7 +51,7 @@ fn size_select(m: SelectMap, y: usize) -> usize
     ensures { result ≡ size_select m y }
 {
     match m {
-        SelectMap::SoundFile => 1 + 8 * util::bytes::at_most(y, 127),
+        SelectMap::SoundFile => 1 + 8 * y.min(MOST_COUNTED),
         SelectMap::WAV(_) => 9,
         SelectMap::SoundFileBankOffset { .. } => 7,
         SelectMap::WAVBankOffset { .. } => 16,
@@ -63,13 +63,13 @@ fn size_reference(m: FileReferenceMsg, x: usize, y: usize) -> usize
     ensures { result ≡ size_reference m x y }
 {
     match m {
-        FileReferenceMsg::Open { .. } => util::bytes::at_most(x, 260) + 1,
+        FileReferenceMsg::Open { .. } => x.min(MOST_URL) + 1,
         FileReferenceMsg::SelectContents { ctx: _, map } => size_select(map, y),
         FileReferenceMsg::OpenSelectContents {
             ctx: _,
             file_type: _,
             map,
-        } => util::bytes::at_most(x, 260) + 1 + size_select(map, y),
+        } => x.min(MOST_URL) + 1 + size_select(map, y),
         FileReferenceMsg::Close { .. } => 0,
     }
 }

@@ -3,7 +3,7 @@
 use mathlib.Core.Path.{◌≡◌, refl, sym, ap, ◌∙◌}
 use mathlib.Core.Option.{Option, none, some}
 use mathlib.Core.List.{List, [], ◌∷◌, ◌++◌, map, map-append}
-use Prim.Native.Nat.{ℕ, zero, suc, ◌+◌, ◌<◌, ◌≤◌, min}
+use Prim.Native.Nat.{ℕ, ◌+◌, ◌<◌, min}
 use native.Mathlib.Numerals.{add-one}
 use native.Mathlib.Omega.{arith}
 use lib.ListN.{length, take, get_or, set}
@@ -22,7 +22,6 @@ use Rattle.messages.specs.declared.file_reference.SoundFileMap.{SoundFileMap}
 use Rattle.messages.specs.Entries.{map_of}
 use Rattle.messages.specs.Refusals.{least, least_none}
 use Rattle.messages.specs.Fields.{url}
-use Rattle.messages.specs.Maps.{default_sound_file_map}
 use Rattle.messages.specs.Messages.{write_of, refusal, settle, given_unless}
 use Rattle.messages.specs.MessageOf.{message_of}
 use Rattle.write_lists.proofs.Laws.Lists.{take_least}
@@ -54,17 +53,6 @@ one_more l i d h = rw (add-one) (sym (take-suc l i d h))
 pub one_packed : (l : List SoundFileMap) (es : List ℕ) (i e : ℕ) (d : SoundFileMap) → i < length es → i < length l → map_of e ≡ get_or l i d → map map_of (take i es) ≡ take i l
     → map map_of (take (i + 1) (set es i e)) ≡ take (i + 1) l
 one_packed l es i e d h k p held = one_held es i e (get_or l i d) h p ∙ (ap (λ (a : List SoundFileMap). a ++ (get_or l i d ∷ [])) held ∙ one_more l i d k)
-
--- the record that an entry says, and none past the last entry
-pub mapped_at : (es : List ℕ) (i : ℕ) → i < length es → get_or (map map_of es) i default_sound_file_map ≡ map_of (get_or es i 0)
-mapped_at [] i h = absurd (omega arith)
-mapped_at (e ∷ es) zero h = refl
-mapped_at (e ∷ es) (suc i) h = mapped_at es i (omega arith)
-
-pub mapped_past : (es : List ℕ) (i : ℕ) → length es ≤ i → get_or (map map_of es) i default_sound_file_map ≡ default_sound_file_map
-mapped_past [] i h = refl
-mapped_past (e ∷ es) zero h = absurd (omega arith)
-mapped_past (e ∷ es) (suc i) h = mapped_past es i (omega arith)
 
 -- ---- "at most 127, surplus dropped"
 

@@ -1,7 +1,7 @@
 // Bank maps that reach the writer as a lent list of map records.
 #![tactic(auto)]
 
-ghost use Rattle.std.specs.Prelude.{◌≡◌, map, ◌≤◌, min, length, take, get_or};
+ghost use Rattle.std.specs.Prelude.{◌≡◌, map, ◌≤◌, length, take, get_or};
 ghost use Rattle.util.specs.Limits.{most_counted};
 ghost use Rattle.messages.specs.Entries.{map_of};
 ghost use Rattle.messages.specs.Maps.{default_sound_file_map};
@@ -11,19 +11,7 @@ ghost use Rattle.write_maps.specs.Records.{records_frame};
 use messages::file_reference::{FileReferenceMsg, SoundFileMap};
 use messages::system_exclusive::{DeviceID, UniversalNonRealTimeMsg};
 use util::limits::MOST_COUNTED;
-use writer::Written;
-
-// How many of n records are written.
-fn count(n: usize) -> usize
-    ensures { result ≡ min n most_counted }
-{
-    if n < MOST_COUNTED { n } else { MOST_COUNTED }
-}
-
-// Room for the entries of 127 records.
-fn no_entries() -> [u64; MOST_COUNTED] {
-    [0u64; MOST_COUNTED]
-}
+use util::refusal::Refusal;
 
 // The entry of a record.
 fn entry_of(added: SoundFileMap) -> u64
@@ -41,7 +29,7 @@ fn write_entries(
     n: usize,
     out: &mut [u8],
     place: usize,
-) -> Written
+) -> Result<usize, Refusal>
     requires { n ≤ most_counted }
     ensures { (result ≡ written_at (records_frame device m text.now (map map_of (take n entries))) (length out.old) place)
         × (out.new ≡ output_after (records_frame device m text.now (map map_of (take n entries))) out.old place) }
@@ -64,25 +52,16 @@ pub fn write_maps(
     maps: &[SoundFileMap],
     out: &mut [u8],
     place: usize,
-) -> Written
+) -> Result<usize, Refusal>
     ensures { (result ≡ written_at (records_frame device m text.now maps.now) (length out.old) place)
         × (out.new ≡ output_after (records_frame device m text.now maps.now) out.old place) }
 {
-    let n = count(maps.len());
-    let mut entries = no_entries();
-    let mut i = 0;
-    while i < n {
-        entries[i] = entry_of(maps[i]);
-        i += 1;
+    let n = maps.len().min(MOST_COUNTED);
+    let mut entries = [0; MOST_COUNTED];
+    for (i, added) in maps[..n].iter().enumerate() {
+        entries[i] = entry_of(*added);
     }
     write_entries(device, m, text, entries, n, out, place)
-}
-
-// How many of 130 records are lent, where n are asked for.
-fn lent(n: usize) -> usize
-    ensures { result ≡ min n 130 }
-{
-    if n < 130 { n } else { 130 }
 }
 
 // Writes beside the first n of 130 records by value.
@@ -94,21 +73,19 @@ pub fn write_first(
     n: usize,
     out: &mut [u8],
     place: usize,
-) -> Written
+) -> Result<usize, Refusal>
     ensures { (result ≡ written_at (records_frame device m text.now (take n records)) (length out.old) place)
         × (out.new ≡ output_after (records_frame device m text.now (take n records)) out.old place) }
 {
-    let k = lent(n);
-    write_maps(device, m, text, &records[..k], out, place)
+    write_maps(device, m, text, &records[..n.min(130)], out, place)
 }
 
 // Record i of lent space, where reading puts bank maps as entries; the default record past its end.
 pub fn map_at(entries: &[u64], i: usize) -> SoundFileMap
     ensures { result ≡ get_or (map map_of entries.now) i default_sound_file_map }
 {
-    if i < entries.len() {
-        SoundFileMap::from_entry(entries[i])
-    } else {
-        SoundFileMap::default()
+    match entries.get(i) {
+        Some(entry) => SoundFileMap::from_entry(*entry),
+        None => SoundFileMap::default(),
     }
 }

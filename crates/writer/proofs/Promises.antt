@@ -9,7 +9,7 @@ use native.Mathlib.Omega.{arith}
 use lib.Dec.{leb}
 use lib.ListN.{length, take, drop}
 use lib.Seq.{take_at, drop_at, drop-drop, length-take-le}
-use borrow.Author.Tests.{leb-true, leb-false}
+use borrow.Author.Tests.{leb-false}
 use Rattle.util.specs.Pick.{pick}
 use Rattle.util.specs.Splice.{splice}
 use Rattle.util.proofs.Laws.Refusals.{number_some}
@@ -18,9 +18,10 @@ use Rattle.util.specs.declared.refusal.Refusal.TheVariants.{Space}
 use Rattle.messages.specs.Messages.{Message, Answer, refused, given, answer_number, write_of}
 use Rattle.messages.proofs.Contents.{refused_exactly}
 use Rattle.messages.proofs.Exact.{writes_settled, written_reads}
+use Rattle.writer.proofs.Laws.Answers.{room_fits}
 use Rattle.writer.proofs.Laws.NotSpace.{not_space}
-use Rattle.writer.specs.declared.Written.TheVariants.{Frame, Refused}
-use Rattle.writer.specs.Write.{written_number, written_value, has_room, written_at, output_after, length_number, length_value, length_at}
+use Rattle.std.specs.Prelude.{Ok, Err}
+use Rattle.writer.specs.Write.{written_number, written_value, has_room, written_at, output_after, length_at}
 use Rattle.writer.specs.Promises.{Placed, value_at, WritesPlaced, RefusesUnchanged, ContentsExactly, SpaceExactly, LengthTold}
 
 -- ---- a splice: what stands before it, in it and after it
@@ -45,17 +46,6 @@ module _ (xs : List ℕ) (at : ℕ) (bs : List ℕ) (h : at + length bs ≤ leng
 
 -- ---- the room
 
-both_picked : (a b : Bool) → pick a b false ≡ true → (a ≡ true) × (b ≡ true)
-both_picked true b e = (refl, e)
-both_picked false b e = absurd (let z : ◌≡◌ {A = ℕ} 0 1 = cc in omega arith)
-
-room_fits : (size place n : ℕ) → has_room size place n ≡ true → place + n ≤ size
-room_fits size place n e =
-    let z = both_picked (leb place size) (leb n (size - place)) e in
-    let p = leb-true place size z.0 in
-    let q = leb-true n (size - place) z.1 in
-    omega arith
-
 one_false : (a b : Bool) {C : Type 0} → pick a b false ≡ false → (a ≡ false → C) → (b ≡ false → C) → C
 one_false true b e f g = g e
 one_false false b e f g = f refl
@@ -76,15 +66,15 @@ room_not size place n h = not_true (has_room size place n) (λ t. let p = room_f
 -- ---- the answers
 
 module _ (size place : ℕ) where
-  space_by : (t : Bool) (n : ℕ) → written_number (pick t (Frame n) (Refused Space)) ≡ 5 → t ≡ false
+  space_by : (t : Bool) (n : ℕ) → written_number (pick t (Ok n) (Err Space)) ≡ 5 → t ≡ false
   space_by true n e = absurd (omega arith)
   space_by false n e = refl
 
-  zero_by : (t : Bool) (n : ℕ) → written_number (pick t (Frame n) (Refused Space)) ≡ 0 → t ≡ true
+  zero_by : (t : Bool) (n : ℕ) → written_number (pick t (Ok n) (Err Space)) ≡ 0 → t ≡ true
   zero_by true n e = refl
   zero_by false n e = absurd (omega arith)
 
-  other_not : (t : Bool) (n k : ℕ) → (k ≡ 0 → ⊥) → (k ≡ 5 → ⊥) → written_number (pick t (Frame n) (Refused Space)) ≡ k → ⊥
+  other_not : (t : Bool) (n k : ℕ) → (k ≡ 0 → ⊥) → (k ≡ 5 → ⊥) → written_number (pick t (Ok n) (Err Space)) ≡ k → ⊥
   other_not true n k p q e = p (sym e)
   other_not false n k p q e = q (sym e)
 
@@ -105,8 +95,8 @@ module _ (size place : ℕ) where
   written_of (refused r) e = absurd (omega (arith, number_some r))
   written_of (given bs) e = let t = zero_by (has_room size place (length bs)) (length bs) e in (bs, (refl, (t, rw t)))
 
-unchanged_by : (t : Bool) (n : ℕ) (x out : List ℕ) → (written_number (pick t (Frame n) (Refused Space)) ≡ 0 → ⊥)
-    → (written_value (pick t (Frame n) (Refused Space)) ≡ 0) × (pick t x out ≡ out)
+unchanged_by : (t : Bool) (n : ℕ) (x out : List ℕ) → (written_number (pick t (Ok n) (Err Space)) ≡ 0 → ⊥)
+    → (written_value (pick t (Ok n) (Err Space)) ≡ 0) × (pick t x out ≡ out)
 unchanged_by true n x out k = absurd (k refl)
 unchanged_by false n x out k = (refl, refl)
 
@@ -115,11 +105,11 @@ unchanged : (a : Answer (List ℕ)) (out : List ℕ) (place : ℕ) → (written_
 unchanged (refused r) out place k = (refl, refl)
 unchanged (given bs) out place k = unchanged_by (has_room (length out) place (length bs)) (length bs) (splice out place bs) out k
 
-length_told_number : (a : Answer (List ℕ)) → length_number (length_at a) ≡ answer_number a
+length_told_number : (a : Answer (List ℕ)) → written_number (length_at a) ≡ answer_number a
 length_told_number (refused r) = refl
 length_told_number (given bs) = refl
 
-zero_besides : (a : Answer (List ℕ)) → (length_number (length_at a) ≡ 0 → ⊥) → length_value (length_at a) ≡ 0
+zero_besides : (a : Answer (List ℕ)) → (written_number (length_at a) ≡ 0 → ⊥) → written_value (length_at a) ≡ 0
 zero_besides (refused r) k = refl
 zero_besides (given bs) k = absurd (k refl)
 
@@ -168,5 +158,5 @@ length_told m =
       zero_besides = zero_besides (write_of m);
       as_written = λ size place e.
           let a = written_of size place (write_of m) e in
-          ap (λ (x : Answer (List ℕ)). length_value (length_at x)) a.1.0 ∙ a.1.1.1;
+          ap (λ (x : Answer (List ℕ)). written_value (length_at x)) a.1.0 ∙ a.1.1.1;
     }

@@ -5,7 +5,7 @@ use Rattle.messages.specs.Layouts.{reads}
 use Rattle.messages.specs.Messages.{Message, given, refusal_number, settle, write_of, Settled, read_of}
 use Rattle.messages.specs.Contents.{contents}
 use Rattle.messages.specs.Promises.{IsFrame}
-use Rattle.writer.specs.Write.{written_number, written_value, written_at, output_after, length_number, length_value, length_at}
+use Rattle.writer.specs.Write.{written_number, written_value, written_at, output_after, length_at}
 
 -- n bytes of the output stand at the place: the frame of the settled form, which is settled, so that they read back as it; the rest is as it was
 pub record Placed (m : Message) (out after : List ℕ) (place n : ℕ) : Type 0 where
@@ -48,9 +48,9 @@ SpaceExactly =
 
 -- the length that is told before writing: refused as the contents say, with 0 besides, and else the value of every writing that is not refused
 pub record LengthOf (m : Message) : Type 0 where
-  pub refused_as : length_number (length_at (write_of m)) ≡ refusal_number (contents m.head m.fields)
-  pub zero_besides : (length_number (length_at (write_of m)) ≡ 0 → ⊥) → length_value (length_at (write_of m)) ≡ 0
-  pub as_written : (size place : ℕ) → number_at m size place ≡ 0 → length_value (length_at (write_of m)) ≡ value_at m size place
+  pub refused_as : written_number (length_at (write_of m)) ≡ refusal_number (contents m.head m.fields)
+  pub zero_besides : (written_number (length_at (write_of m)) ≡ 0 → ⊥) → written_value (length_at (write_of m)) ≡ 0
+  pub as_written : (size place : ℕ) → number_at m size place ≡ 0 → written_value (length_at (write_of m)) ≡ value_at m size place
 
 abbrev pub LengthTold : Type 0
 LengthTold = (m : Message) → LengthOf m

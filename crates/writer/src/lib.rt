@@ -14,85 +14,17 @@ ghost use Rattle.messages.specs.MessageOf.{head_of, fields_of, message_of, head_
 ghost use Rattle.write_fronts.specs.Fronts.{front_of};
 ghost use Rattle.write_fronts.specs.Sizes.{front_size};
 ghost use Rattle.write_lists.specs.Parts.{part_of};
-ghost use Rattle.writer.specs.Write.{written_at, output_after, length_at};
+ghost use Rattle.writer.specs.Write.{has_room, written_at, output_after, length_at};
 ghost use Rattle.writer.specs.Frames.{sum_of, wire, frame_of, SizesOf};
 
-use crate::handshake::Handshake;
-use messages::file_dump::FileDumpMsg;
-use messages::sample_dump::SampleDumpMsg;
 use messages::system_exclusive::{DeviceID, UniversalNonRealTimeMsg};
 use util::refusal::Refusal;
 
-// What writing answers: the frame's length, or a refusal.
-#[derive(Clone, Copy)]
-pub enum Written {
-    Frame(usize),
-    Refused(Refusal),
-}
-
-// Whether a message's contents are admitted.
-#[derive(Clone, Copy)]
-pub enum Contents {
-    Admitted,
-    Refused(Refusal),
-}
-
-// The length of a message's frame in bytes, or a refusal.
-#[derive(Clone, Copy)]
-pub enum Length {
-    Bytes(usize),
-    Refused(Refusal),
-}
-
-// Whether a checksum ends a sample dump.
-fn sample_has_sum(m: SampleDumpMsg) -> bool
-    ensures { result ≡ summed (head_sample m) }
+// Whether n bytes fit from a place on of an output of so many bytes.
+pub fn has_room(size: usize, place: usize, n: usize) -> bool
+    ensures { result ≡ has_room size place n }
 {
-    match m {
-        SampleDumpMsg::Header { .. } => false,
-        SampleDumpMsg::Packet { .. } => true,
-        SampleDumpMsg::Request { .. } => false,
-        SampleDumpMsg::LoopPointTransmission { .. } => false,
-        SampleDumpMsg::LoopPointsRequest { .. } => false,
-    }
-}
-
-// Whether a checksum ends a file dump.
-fn file_has_sum(m: FileDumpMsg) -> bool
-    ensures { result ≡ summed (head_file m) }
-{
-    match m {
-        FileDumpMsg::Header { .. } => false,
-        FileDumpMsg::Packet { .. } => true,
-        FileDumpMsg::Request { .. } => false,
-    }
-}
-
-// Whether a checksum ends a message.
-fn has_sum(m: UniversalNonRealTimeMsg) -> bool
-    ensures { result ≡ summed (head_of m) }
-{
-    match m {
-        UniversalNonRealTimeMsg::SampleDump(x) => sample_has_sum(x),
-        UniversalNonRealTimeMsg::ExtendedSampleDump(_) => false,
-        UniversalNonRealTimeMsg::IdentityRequest => false,
-        UniversalNonRealTimeMsg::IdentityReply(_) => false,
-        UniversalNonRealTimeMsg::FileDump(x) => file_has_sum(x),
-        UniversalNonRealTimeMsg::TuningBulkDumpRequest { .. } => false,
-        UniversalNonRealTimeMsg::KeyBasedTuningDump(_) => true,
-        UniversalNonRealTimeMsg::ScaleTuningDump1Byte(_) => true,
-        UniversalNonRealTimeMsg::ScaleTuningDump2Byte(_) => true,
-        UniversalNonRealTimeMsg::TuningNoteChange(_) => false,
-        UniversalNonRealTimeMsg::ScaleTuning1Byte(_) => false,
-        UniversalNonRealTimeMsg::ScaleTuning2Byte(_) => false,
-        UniversalNonRealTimeMsg::GeneralMidi(_) => false,
-        UniversalNonRealTimeMsg::FileReference(_) => false,
-        UniversalNonRealTimeMsg::EOF => false,
-        UniversalNonRealTimeMsg::Wait => false,
-        UniversalNonRealTimeMsg::Cancel => false,
-        UniversalNonRealTimeMsg::NAK(_) => false,
-        UniversalNonRealTimeMsg::ACK(_) => false,
-    }
+    place <= size && n <= size - place
 }
 
 // How many bytes a checksum takes.
@@ -117,32 +49,6 @@ fn put_sum(out: &mut [u8], sum: bool, end: usize) -> usize
     }
 }
 
-// Writes a frame: F0, the message's front and its part of so many bytes each, the checksum, F7.
-fn put_frame(
-    out: &mut [u8],
-    d: u64,
-    m: UniversalNonRealTimeMsg,
-    text: &[u8],
-    entries: &[u64],
-    size: usize,
-    part: usize,
-    sum: bool,
-)
-    requires { (contents (head_of m) (fields_of m text.now entries.now) ≡ none)
-        × (size ≡ front_size m)
-        × (part ≡ length (part_of m text.now entries.now))
-        × (length (wire sum (front_of d m (length text.now) (length entries.now) ++ part_of m text.now entries.now)) ≤ length out.old) }
-    ensures { out.new ≡ overwritten (wire sum (front_of d m (length text.now) (length entries.now) ++ part_of m text.now entries.now)) out.old }
-{
-    out[0] = 0xF0;
-    write_fronts::put_front(&mut out[1..], d, m, text.len(), entries.len());
-    let a = 1 + size;
-    write_lists::part::put_part(&mut out[a..], m, text, entries);
-    let e = a + part;
-    let z = e + put_sum(out, sum, e);
-    out[z] = 0xF7;
-}
-
 // What a frame is made of beside F0 and F7: the bytes of its front and of its part, and whether there is a checksum.
 #[derive(Clone, Copy)]
 struct Sizes {
@@ -151,23 +57,49 @@ struct Sizes {
     sum: bool,
 }
 
-// The sizes of the frame of a message whose contents are admitted.
-fn sizes_of(m: UniversalNonRealTimeMsg, text: &[u8], entries: &[u64]) -> Sizes
-    requires { contents (head_of m) (fields_of m text.now entries.now) ≡ none }
-    ensures { SizesOf result m text.now entries.now }
-{
-    let part = write_lists::size::part_size(m, text.len(), entries.len());
-    let sum = has_sum(m);
-    let front = write_fronts::front_size(m);
-    Sizes { front, part, sum }
+impl Sizes {
+    // The sizes of the frame of a message whose contents are admitted.
+    fn of(m: UniversalNonRealTimeMsg, text: &[u8], entries: &[u64]) -> Sizes
+        requires { contents (head_of m) (fields_of m text.now entries.now) ≡ none }
+        ensures { SizesOf result m text.now entries.now }
+    {
+        let part = write_lists::size::part_size(m, text.len(), entries.len());
+        let sum = m.head().is_summed();
+        let front = write_fronts::front_size(m);
+        Sizes { front, part, sum }
+    }
+
+    // The length of a frame of these sizes.
+    fn total(self) -> usize
+        requires { (self.front ≤ 32) × (self.part ≤ 2048) }
+        ensures { result ≡ 2 + self.front + self.part + length (sum_of self.sum []) }
+    {
+        2 + self.front + self.part + sum_size(self.sum)
+    }
 }
 
-// The length of a frame of such sizes.
-fn total_of(s: Sizes) -> usize
-    requires { (s.front ≤ 32) × (s.part ≤ 2048) }
-    ensures { result ≡ 2 + s.front + s.part + length (sum_of s.sum []) }
+// Writes a frame of these sizes: F0, the message's front and its part, the checksum, F7.
+fn put_frame(
+    out: &mut [u8],
+    d: u64,
+    m: UniversalNonRealTimeMsg,
+    text: &[u8],
+    entries: &[u64],
+    s: Sizes,
+)
+    requires { (contents (head_of m) (fields_of m text.now entries.now) ≡ none)
+        × (s.front ≡ front_size m)
+        × (s.part ≡ length (part_of m text.now entries.now))
+        × (length (wire s.sum (front_of d m (length text.now) (length entries.now) ++ part_of m text.now entries.now)) ≤ length out.old) }
+    ensures { out.new ≡ overwritten (wire s.sum (front_of d m (length text.now) (length entries.now) ++ part_of m text.now entries.now)) out.old }
 {
-    2 + s.front + s.part + sum_size(s.sum)
+    out[0] = 0xF0;
+    write_fronts::put_front(&mut out[1..], d, m, text.len(), entries.len());
+    let a = 1 + s.front;
+    write_lists::part::put_part(&mut out[a..], m, text, entries);
+    let e = a + s.part;
+    let z = e + put_sum(out, s.sum, e);
+    out[z] = 0xF7;
 }
 
 // The length of the frame of a message whose contents are admitted.
@@ -180,8 +112,7 @@ fn admitted_length(
     requires { contents (head_of m) (fields_of m text.now entries.now) ≡ none }
     ensures { result ≡ length (frame_of device m text.now entries.now) }
 {
-    let s = sizes_of(m, text, entries);
-    total_of(s)
+    Sizes::of(m, text, entries).total()
 }
 
 // Writes the frame of a message whose contents are admitted, where there is room.
@@ -198,8 +129,8 @@ fn put_admitted(
         × (length (frame_of device m text.now entries.now) ≤ length out.old) }
     ensures { out.new ≡ overwritten (frame_of device m text.now entries.now) out.old }
 {
-    let d = messages::system_exclusive::device_byte(device);
-    put_frame(out, d, m, text, entries, s.front, s.part, s.sum);
+    let d = u8::from(device) as u64;
+    put_frame(out, d, m, text, entries, s);
 }
 
 // Writes the frame of a message whose contents are admitted at a place of the output, or refuses it for want of space.
@@ -210,36 +141,33 @@ fn write_admitted(
     entries: &[u64],
     out: &mut [u8],
     place: usize,
-) -> Written
+) -> Result<usize, Refusal>
     requires { contents (head_of m) (fields_of m text.now entries.now) ≡ none }
     ensures { (result ≡ written_at (given (frame_of device m text.now entries.now)) (length out.old) place)
         × (out.new ≡ output_after (given (frame_of device m text.now entries.now)) out.old place) }
 {
-    let s = sizes_of(m, text, entries);
-    let n = total_of(s);
-    if out.len() < place {
-        return Written::Refused(Refusal::Space);
-    }
-    if out.len() - place < n {
-        return Written::Refused(Refusal::Space);
+    let s = Sizes::of(m, text, entries);
+    let n = s.total();
+    if !has_room(out.len(), place, n) {
+        return Err(Refusal::Space);
     }
     put_admitted(&mut out[place..], device, m, text, entries, s);
-    Written::Frame(n)
+    Ok(n)
 }
 
 // The length of a message's frame, before anything is written, or the refusal of its contents.
+// Kept as a match: it is no longer than `?` and `Ok(..)`, and the answer to a refusal has a line of its own.
 pub fn frame_length(
     device: DeviceID,
     m: UniversalNonRealTimeMsg,
     text: &[u8],
     entries: &[u64],
-) -> Length
+) -> Result<usize, Refusal>
     ensures { result ≡ length_at (write_of (message_of device m text.now entries.now)) }
 {
-    let told = refusals::refused(m, text, entries);
-    match told {
-        Contents::Admitted => Length::Bytes(admitted_length(device, m, text, entries)),
-        Contents::Refused(r) => Length::Refused(r),
+    match refusals::refused(m, text, entries) {
+        Ok(()) => Ok(admitted_length(device, m, text, entries)),
+        Err(r) => Err(r),
     }
 }
 
@@ -251,15 +179,12 @@ fn write_message(
     entries: &[u64],
     out: &mut [u8],
     place: usize,
-) -> Written
+) -> Result<usize, Refusal>
     ensures { (result ≡ written_at (write_of (message_of device m text.now entries.now)) (length out.old) place)
         × (out.new ≡ output_after (write_of (message_of device m text.now entries.now)) out.old place) }
 {
-    let told = refusals::refused(m, text, entries);
-    match told {
-        Contents::Admitted => write_admitted(device, m, text, entries, out, place),
-        Contents::Refused(r) => Written::Refused(r),
-    }
+    refusals::refused(m, text, entries)?;
+    write_admitted(device, m, text, entries, out, place)
 }
 
 // Writes a message's frame at a place of the output.
@@ -270,13 +195,12 @@ pub fn write(
     entries: &[u64],
     out: &mut [u8],
     place: usize,
-) -> Written
+) -> Result<usize, Refusal>
     ensures { (result ≡ written_at (write_of (message_of device m text.now entries.now)) (length out.old) place)
         × (out.new ≡ output_after (write_of (message_of device m text.now entries.now)) out.old place) }
 {
-    let h = handshake::handshake_of(m);
-    match h {
-        Handshake::Of(a, n) => handshake::write_handshake(device, a, n, out, place),
-        Handshake::Other => write_message(device, m, text, entries, out, place),
+    match handshake::handshake_of(m) {
+        Some((a, n)) => handshake::write_handshake(device, a, n, out, place),
+        None => write_message(device, m, text, entries, out, place),
     }
 }

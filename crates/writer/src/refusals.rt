@@ -12,8 +12,7 @@ ghost use Rattle.messages.specs.MessageOf.{head_of, fields_of, head_extended, fi
 ghost use Rattle.writer.specs.Write.{told};
 ghost use Rattle.writer.specs.Frames.{header_contents, request_contents};
 
-use crate::Contents;
-use messages::file_dump::{FileDumpMsg, FileType};
+use messages::file_dump::{FileDumpMsg, FileType, type_letters};
 use messages::file_reference::{FileReferenceMsg, FileReferenceType, SelectMap};
 use messages::sample_dump::ExtendedSampleDumpMsg;
 use messages::system_exclusive::{ManufacturerID, UniversalNonRealTimeMsg};
@@ -24,134 +23,104 @@ use util::refusal::Refusal;
 fn is_text(s: &[u8]) -> bool
     ensures { result ≡ is_text s.now }
 {
-    let mut i = 0;
-    while i < s.len() {
-        if s[i] == 0 {
-            return false;
-        }
-        if 127 < s[i] {
-            return false;
-        }
-        i += 1;
-    }
-    true
+    s.iter().all(|b| 0 < *b && *b < 128)
 }
 
 // Whether the four bytes of a file type are below 128.
 fn is_seven_type(t: FileType) -> bool
     ensures { result ≡ seven (type_bytes t) }
 {
-    match t {
-        FileType::MIDI => true,
-        FileType::MIEX => true,
-        FileType::ESEQ => true,
-        FileType::TEXT => true,
-        FileType::BIN => true,
-        FileType::MAC => true,
-        FileType::Custom(a, b, c, d) => {
-            let letters = [a, b, c, d];
-            bytes::is_seven(&letters)
-        }
-    }
+    bytes::is_seven(&type_letters(t))
 }
 
 // HIGH where a text has a byte above 127.
-fn refused_high(text: &[u8]) -> Contents
+fn refused_high(text: &[u8]) -> Result<(), Refusal>
     ensures { result ≡ told (high text.now) }
 {
     if bytes::is_seven(text) {
-        Contents::Admitted
+        Ok(())
     } else {
-        Contents::Refused(Refusal::High)
+        Err(Refusal::High)
     }
 }
 
 // HIGH where a URL has a byte above 127 or a 00.
-fn refused_url(url: &[u8]) -> Contents
+fn refused_url(url: &[u8]) -> Result<(), Refusal>
     ensures { result ≡ told (high_url url.now) }
 {
     if is_text(url) {
-        Contents::Admitted
+        Ok(())
     } else {
-        Contents::Refused(Refusal::High)
+        Err(Refusal::High)
     }
 }
 
 // LONG where there are more than so many.
-fn refused_long(n: usize, most: usize) -> Contents
+fn refused_long(n: usize, most: usize) -> Result<(), Refusal>
     ensures { result ≡ told (unless Long (leb n most)) }
 {
     if n <= most {
-        Contents::Admitted
+        Ok(())
     } else {
-        Contents::Refused(Refusal::Long)
+        Err(Refusal::Long)
     }
 }
 
 // VALUE where a number does not fit four groups.
-fn refused_value(v: u32) -> Contents
+fn refused_value(v: u32) -> Result<(), Refusal>
     ensures { result ≡ told (too_large v) }
 {
     if v < 268435456 {
-        Contents::Admitted
+        Ok(())
     } else {
-        Contents::Refused(Refusal::Value)
+        Err(Refusal::Value)
     }
 }
 
 // VALUE where one of the two numbers of a rate does not fit four groups.
-fn refused_rate(whole: u32, fraction: u32) -> Contents
+fn refused_rate(whole: u32, fraction: u32) -> Result<(), Refusal>
     ensures { result ≡ told (least (too_large whole) (too_large fraction)) }
 {
-    if whole < 268435456 {
-        refused_value(fraction)
-    } else {
-        Contents::Refused(Refusal::Value)
-    }
+    refused_value(whole)?;
+    refused_value(fraction)
 }
 
 // VALUE for the one-byte maker 00.
-fn refused_maker(id: ManufacturerID) -> Contents
+fn refused_maker(id: ManufacturerID) -> Result<(), Refusal>
     ensures { result ≡ told (zero_maker id) }
 {
     match id {
-        ManufacturerID::OneByte(b) => {
-            if 1 <= b {
-                Contents::Admitted
-            } else {
-                Contents::Refused(Refusal::Value)
-            }
-        }
-        ManufacturerID::Extended(_, _) => Contents::Admitted,
+        ManufacturerID::OneByte(b) => { if 1 <= b { Ok(()) } else { Err(Refusal::Value) } }
+        ManufacturerID::Extended(_, _) => Ok(()),
     }
 }
 
 // KIND for a WAV map where the file is a bank.
-fn refused_wav(map: SelectMap) -> Contents
+fn refused_wav(map: SelectMap) -> Result<(), Refusal>
     ensures { result ≡ told (other_kind DLS (any_select map [])) }
 {
     match map {
-        SelectMap::SoundFile => Contents::Admitted,
-        SelectMap::WAV(_) => Contents::Refused(Refusal::Kind),
-        SelectMap::SoundFileBankOffset { .. } => Contents::Admitted,
-        SelectMap::WAVBankOffset { .. } => Contents::Refused(Refusal::Kind),
+        SelectMap::SoundFile => Ok(()),
+        SelectMap::WAV(_) => Err(Refusal::Kind),
+        SelectMap::SoundFileBankOffset { .. } => Ok(()),
+        SelectMap::WAVBankOffset { .. } => Err(Refusal::Kind),
     }
 }
 
 // KIND for a bank's map where the file is a WAV file.
-fn refused_bank(map: SelectMap) -> Contents
+fn refused_bank(map: SelectMap) -> Result<(), Refusal>
     ensures { result ≡ told (other_kind WAV (any_select map [])) }
 {
     match map {
-        SelectMap::SoundFile => Contents::Refused(Refusal::Kind),
-        SelectMap::WAV(_) => Contents::Admitted,
-        SelectMap::SoundFileBankOffset { .. } => Contents::Refused(Refusal::Kind),
-        SelectMap::WAVBankOffset { .. } => Contents::Admitted,
+        SelectMap::SoundFile => Err(Refusal::Kind),
+        SelectMap::WAV(_) => Ok(()),
+        SelectMap::SoundFileBankOffset { .. } => Err(Refusal::Kind),
+        SelectMap::WAVBankOffset { .. } => Ok(()),
     }
 }
 
 // KIND where the map is not of the file's kind.
-fn refused_map(t: FileReferenceType, map: SelectMap) -> Contents
+fn refused_map(t: FileReferenceType, map: SelectMap) -> Result<(), Refusal>
     ensures { result ≡ told (other_kind t (any_select map [])) }
 {
     match t {
@@ -162,57 +131,48 @@ fn refused_map(t: FileReferenceType, map: SelectMap) -> Contents
 }
 
 // The refusal of 0B 03: HIGH of the URL, then KIND.
-fn refused_open(t: FileReferenceType, map: SelectMap, url: &[u8]) -> Contents
+fn refused_open(t: FileReferenceType, map: SelectMap, url: &[u8]) -> Result<(), Refusal>
     ensures { result ≡ told (least (high_url url.now) (other_kind t (any_select map []))) }
 {
-    if is_text(url) {
-        refused_map(t, map)
-    } else {
-        Contents::Refused(Refusal::High)
-    }
+    refused_url(url)?;
+    refused_map(t, map)
 }
 
 // The refusal of a file header: HIGH of the type or the name, LONG, VALUE.
-fn refused_header(t: FileType, length: u32, name: &[u8]) -> Contents
+fn refused_header(t: FileType, length: u32, name: &[u8]) -> Result<(), Refusal>
     ensures { result ≡ told (header_contents t length name.now) }
 {
+    refused_request(t, name)?;
+    refused_value(length)
+}
+
+// HIGH where a file type has a byte above 127.
+fn refused_type(t: FileType) -> Result<(), Refusal>
+    ensures { result ≡ told (high (type_bytes t)) }
+{
     if is_seven_type(t) {
-        if bytes::is_seven(name) {
-            if name.len() <= 1024 {
-                refused_value(length)
-            } else {
-                Contents::Refused(Refusal::Long)
-            }
-        } else {
-            Contents::Refused(Refusal::High)
-        }
+        Ok(())
     } else {
-        Contents::Refused(Refusal::High)
+        Err(Refusal::High)
     }
 }
 
 // The refusal of a file request: HIGH of the type or the name, LONG.
-fn refused_request(t: FileType, name: &[u8]) -> Contents
+fn refused_request(t: FileType, name: &[u8]) -> Result<(), Refusal>
     ensures { result ≡ told (request_contents t name.now) }
 {
-    if is_seven_type(t) {
-        if bytes::is_seven(name) {
-            refused_long(name.len(), 1024)
-        } else {
-            Contents::Refused(Refusal::High)
-        }
-    } else {
-        Contents::Refused(Refusal::High)
-    }
+    refused_type(t)?;
+    refused_high(name)?;
+    refused_long(name.len(), 1024)
 }
 
 // The refusal of an extended sample dump.
-fn refused_extended(m: ExtendedSampleDumpMsg, text: &[u8]) -> Contents
+fn refused_extended(m: ExtendedSampleDumpMsg, text: &[u8]) -> Result<(), Refusal>
     ensures { result ≡ told (contents (head_extended m) (fields_extended m text.now)) }
 {
     match m {
         ExtendedSampleDumpMsg::SampleName { .. } => refused_high(text),
-        ExtendedSampleDumpMsg::SampleNameRequest { .. } => Contents::Admitted,
+        ExtendedSampleDumpMsg::SampleNameRequest { .. } => Ok(()),
         ExtendedSampleDumpMsg::Header {
             sample_num: _,
             format: _,
@@ -224,13 +184,13 @@ fn refused_extended(m: ExtendedSampleDumpMsg, text: &[u8]) -> Contents
             loop_type: _,
             num_channels: _,
         } => refused_rate(sample_rate_integer, sample_rate_fraction),
-        ExtendedSampleDumpMsg::LoopPointTransmission { .. } => Contents::Admitted,
-        ExtendedSampleDumpMsg::LoopPointsRequest { .. } => Contents::Admitted,
+        ExtendedSampleDumpMsg::LoopPointTransmission { .. } => Ok(()),
+        ExtendedSampleDumpMsg::LoopPointsRequest { .. } => Ok(()),
     }
 }
 
 // The refusal of a file dump.
-fn refused_file(m: FileDumpMsg, text: &[u8]) -> Contents
+fn refused_file(m: FileDumpMsg, text: &[u8]) -> Result<(), Refusal>
     ensures { result ≡ told (contents (head_file m) (fields_file m text.now)) }
 {
     match m {
@@ -248,47 +208,47 @@ fn refused_file(m: FileDumpMsg, text: &[u8]) -> Contents
 }
 
 // The refusal of a file reference.
-fn refused_reference(m: FileReferenceMsg, text: &[u8], entries: &[u64]) -> Contents
+fn refused_reference(m: FileReferenceMsg, text: &[u8], entries: &[u64]) -> Result<(), Refusal>
     ensures { result ≡ told (contents (head_reference m) (fields_reference m text.now entries.now)) }
 {
     match m {
         FileReferenceMsg::Open { .. } => refused_url(text),
-        FileReferenceMsg::SelectContents { .. } => Contents::Admitted,
+        FileReferenceMsg::SelectContents { .. } => Ok(()),
         FileReferenceMsg::OpenSelectContents {
             ctx: _,
             file_type,
             map,
         } => refused_open(file_type, map, text),
-        FileReferenceMsg::Close { .. } => Contents::Admitted,
+        FileReferenceMsg::Close { .. } => Ok(()),
     }
 }
 
 // The refusal of a message with the text and the entries lent beside it, or that its contents are admitted.
-pub fn refused(m: UniversalNonRealTimeMsg, text: &[u8], entries: &[u64]) -> Contents
+pub fn refused(m: UniversalNonRealTimeMsg, text: &[u8], entries: &[u64]) -> Result<(), Refusal>
     ensures { result ≡ told (contents (head_of m) (fields_of m text.now entries.now)) }
 {
     match m {
-        UniversalNonRealTimeMsg::SampleDump(_) => Contents::Admitted,
+        UniversalNonRealTimeMsg::SampleDump(_) => Ok(()),
         UniversalNonRealTimeMsg::ExtendedSampleDump(x) => refused_extended(x, text),
-        UniversalNonRealTimeMsg::IdentityRequest => Contents::Admitted,
+        UniversalNonRealTimeMsg::IdentityRequest => Ok(()),
         UniversalNonRealTimeMsg::IdentityReply(r) => {
             let id = r.id;
             refused_maker(id)
         }
         UniversalNonRealTimeMsg::FileDump(x) => refused_file(x, text),
-        UniversalNonRealTimeMsg::TuningBulkDumpRequest { .. } => Contents::Admitted,
+        UniversalNonRealTimeMsg::TuningBulkDumpRequest { .. } => Ok(()),
         UniversalNonRealTimeMsg::KeyBasedTuningDump(_) => refused_high(text),
         UniversalNonRealTimeMsg::ScaleTuningDump1Byte(_) => refused_high(text),
         UniversalNonRealTimeMsg::ScaleTuningDump2Byte(_) => refused_high(text),
         UniversalNonRealTimeMsg::TuningNoteChange(_) => refused_long(entries.len(), 127),
-        UniversalNonRealTimeMsg::ScaleTuning1Byte(_) => Contents::Admitted,
-        UniversalNonRealTimeMsg::ScaleTuning2Byte(_) => Contents::Admitted,
-        UniversalNonRealTimeMsg::GeneralMidi(_) => Contents::Admitted,
+        UniversalNonRealTimeMsg::ScaleTuning1Byte(_) => Ok(()),
+        UniversalNonRealTimeMsg::ScaleTuning2Byte(_) => Ok(()),
+        UniversalNonRealTimeMsg::GeneralMidi(_) => Ok(()),
         UniversalNonRealTimeMsg::FileReference(x) => refused_reference(x, text, entries),
-        UniversalNonRealTimeMsg::EOF => Contents::Admitted,
-        UniversalNonRealTimeMsg::Wait => Contents::Admitted,
-        UniversalNonRealTimeMsg::Cancel => Contents::Admitted,
-        UniversalNonRealTimeMsg::NAK(_) => Contents::Admitted,
-        UniversalNonRealTimeMsg::ACK(_) => Contents::Admitted,
+        UniversalNonRealTimeMsg::EOF => Ok(()),
+        UniversalNonRealTimeMsg::Wait => Ok(()),
+        UniversalNonRealTimeMsg::Cancel => Ok(()),
+        UniversalNonRealTimeMsg::NAK(_) => Ok(()),
+        UniversalNonRealTimeMsg::ACK(_) => Ok(()),
     }
 }

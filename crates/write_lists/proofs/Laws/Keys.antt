@@ -6,16 +6,16 @@ use Prim.Native.Nat.{ℕ, ◌+◌, ◌*◌, ◌/◌, ◌%◌, ◌≤◌, ◌<◌
 use native.Mathlib.Omega.{arith}
 use lib.ListN.{get_or}
 use borrow.Author.Tests.{lt-ltb}
-use Rattle.messages.specs.declared.tuning.MaybeTuning.{MaybeTuning}
-use Rattle.messages.specs.declared.tuning.MaybeTuning.TheVariants.{Tuned}
+use Rattle.std.specs.Prelude.{Option, Some}
+use Rattle.messages.specs.declared.tuning.Tuning.{Tuning}
 use Rattle.messages.specs.format.Core.{written}
 use Rattle.messages.specs.Fields.{tuning}
 use Rattle.messages.specs.Entries.{tuning_of}
 use Rattle.write_lists.proofs.Laws.Lists.{filled_from, filled_turn, filled_done}
 
 -- "Entry i past the given list is i, 00, 00"
-abbrev own : ℕ → MaybeTuning
-own i = Tuned (record { semitone = i; fraction = 0 })
+abbrev own : ℕ → Option Tuning
+own i = Some (record { semitone = i; fraction = 0 })
 
 key_self : (i : ℕ) → i < 128 → tuning_of (i * 65536) ≡ own i
 key_self i h =

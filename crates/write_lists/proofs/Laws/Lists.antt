@@ -7,18 +7,16 @@ use mathlib.Core.Logic.{◌⊎◌, inl, inr, ⊎_elim}
 use Prim.Native.Nat.{ℕ, zero, suc, ◌+◌, ◌-◌, ◌*◌, ◌≤◌, ◌<◌, min}
 use native.Mathlib.Numerals.{add-one}
 use native.Mathlib.Omega.{arith}
-use lib.ListN.{length, take, drop, get_or, length-append, length-take, drop_of_length-le, get_or-eq_default}
+use lib.ListN.{length, take, drop, get_or, length-append, length-take, length-map, drop_of_length-le, get_or-eq_default}
 use lib.Seq.{drop-cons}
 use Rattle.messages.proofs.Formats.{all_size}
 use Rattle.messages.specs.format.Core.{Part, written}
 use Rattle.messages.specs.format.Lists.{all_settle, all_bytes, all_length, filled, filled_length, exactly, counted}
-use Rattle.write_lists.specs.Writing.{items}
-
--- what stands at a place that is there does not depend on the default
-pub get_or_any : {A : Type 0} (l : List A) (i : ℕ) (d e : A) → i < length l → get_or l i d ≡ get_or l i e
-get_or_any [] i d e h = absurd (omega arith)
-get_or_any (x ∷ l) zero d e h = refl
-get_or_any (x ∷ l) (suc i) d e h = get_or_any l i d e (omega arith)
+use Rattle.util.specs.Splice.{overwritten, splice}
+use Rattle.util.proofs.Laws.Splice.{item_turn}
+use borrow.Rule.Slice.PartMut.{put_mid}
+use native.Mathlib.Nat.{mul-le-mul_left}
+use Rattle.write_lists.specs.Writing.{each}
 
 -- the first n are the first n or fewer that there are
 pub take_least : {A : Type 0} (n : ℕ) (l : List A) → take n l ≡ take (min (length l) n) l
@@ -43,35 +41,30 @@ module _ {A : Type 0} (p : Part A) where
         let e : length (all_settle p (take 127 l)) ≡ min (length l) 127 = all_length p (take 127 l) ∙ omega (arith, length-take 127 l) in
         ap suc (all_size p k one (all_settle p (take 127 l)) ∙ ap (λ (m : ℕ). k * m) e) ∙ omega arith
 
-  -- ---- entries one after another
+  -- ---- values one after another
 
+  pub all_each : (l : List A) → all_bytes p (all_settle p l) ≡ each (written p) l
+  all_each [] = refl
+  all_each (x ∷ l) = ap (λ (r : List ℕ). written p x ++ r) (all_each l)
+
+  -- a number and so many values
+  pub counted_each : (l : List A) → written (counted p) l ≡ min (length l) 127 ∷ each (written p) (take (min (length l) 127) l)
+  counted_each l =
+      ap₂ (λ (n : ℕ) (r : List ℕ). n ∷ r) (all_length p (take 127 l) ∙ omega (arith, length-take 127 l))
+      (all_each (take 127 l) ∙ ap (each (written p)) (take_least 127 l))
+
+  -- the same of the values of entries
   module _ (val : ℕ → A) where
-    pub take_items : (n : ℕ) (es : List ℕ) → all_bytes p (all_settle p (take n (map val es))) ≡ items p val (take n es)
-    take_items zero es = refl
-    take_items (suc n) [] = refl
-    take_items (suc n) (e ∷ es) = ap (λ (l : List ℕ). written p (val e) ++ l) (take_items n es)
+    take_each : (n : ℕ) (es : List ℕ) → each (written p) (take n (map val es)) ≡ each (λ e. written p (val e)) (take n es)
+    take_each zero es = refl
+    take_each (suc n) [] = refl
+    take_each (suc n) (e ∷ es) = ap (λ (l : List ℕ). written p (val e) ++ l) (take_each n es)
 
-    take_count : (n : ℕ) (es : List ℕ) → length (all_settle p (take n (map val es))) ≡ length (take n es)
-    take_count zero es = refl
-    take_count (suc n) [] = refl
-    take_count (suc n) (e ∷ es) = ap suc (take_count n es)
-
-    -- a number and so many entries
-    pub counted_is : (es : List ℕ) → written (counted p) (map val es) ≡ min (length es) 127 ∷ items p val (take (min (length es) 127) es)
+    pub counted_is : (es : List ℕ)
+        → written (counted p) (map val es) ≡ min (length es) 127 ∷ each (λ e. written p (val e)) (take (min (length es) 127) es)
     counted_is es =
-        ap₂ (λ (n : ℕ) (l : List ℕ). n ∷ l) (take_count 127 es ∙ omega (arith, length-take 127 es))
-        (take_items 127 es ∙ ap (items p val) (take_least 127 es))
-
-    pub items_turn : (es : List ℕ) (i : ℕ) → i < length es
-        → items p val (drop i es) ≡ written p (val (get_or es i 0)) ++ items p val (drop (i + 1) es)
-    items_turn es i h = rw (add-one, drop-cons es i 0)
-
-    pub items_done : (es : List ℕ) (i : ℕ) → length es ≤ i → items p val (drop i es) ≡ []
-    items_done es i h = ap (items p val) (drop_of_length-le es {i = i} h)
-
-    pub items_size : (k : ℕ) → ((a : A) → length (p.bytes a) ≡ k) → (es : List ℕ) → length (items p val es) ≡ k * length es
-    items_size k one [] = omega arith
-    items_size k one (e ∷ es) = length-append (written p (val e)) (items p val es) ∙ omega (arith, one (p.settle (val e)), items_size k one es)
+        counted_each (map val es)
+        ∙ rw length-map (ap (λ (l : List ℕ). min (length es) 127 ∷ l) (take_each (min (length es) 127) es))
 
   -- ---- n entries, filled by place: the entry at i, and those from i + 1 on. An entry that is missing is `def i`.
 
@@ -101,3 +94,21 @@ module _ {A : Type 0} (p : Part A) where
 
     pub filled_done : (i : ℕ) → n ≤ i → filled_from i ≡ []
     filled_done i h = let e : n - i ≡ 0 = omega arith in rw e
+
+-- ---- values of one size one after another
+
+-- one value written: those that are left, on what is there, give what they gave
+pub each_step : {A : Type 0} (f : A → List ℕ) (k s i : ℕ) (xs : List A) (v : A) (out ys z : List ℕ) → s ≡ k → i < length xs → v ≡ get_or xs i v
+    → length (f v) ≡ k → k * length xs ≤ length out → ys ≡ overwritten (f v) (take (length out - s * i) (drop (s * i) out))
+    → splice out (k * i) (each f (drop i xs)) ≡ z
+    → splice (put_mid (s * i) (length out - s * i) out ys) (k * (i + 1)) (each f (drop (i + 1) xs)) ≡ z
+each_step f k s i xs v out ys z e h g l r w t =
+    let m : k * i + k ≡ k * (i + 1) = omega arith in
+    let b : k * (i + 1) ≤ k * length xs = mul-le-mul_left k (omega arith) in
+    let d : drop i xs ≡ v ∷ drop (i + 1) xs = rw (add-one, drop-cons xs i v, ← g) in
+    let u = rw d at t in
+    rw (e, ← m) (item_turn out ys (f v) (each f (drop (i + 1) xs)) z (k * i) k l (omega arith) (rw e at w) u).1
+
+pub each_length : {A : Type 0} (f : A → List ℕ) (k : ℕ) → ((a : A) → length (f a) ≡ k) → (l : List A) → length (each f l) ≡ k * length l
+each_length f k one [] = omega arith
+each_length f k one (x ∷ l) = let e : k * suc (length l) ≡ k + k * length l = grind arith in length-append (f x) (each f l) ∙ omega (arith, one x, each_length f k one l, e)

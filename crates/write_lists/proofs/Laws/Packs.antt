@@ -1,59 +1,38 @@
--- Laws of packing byte by byte.
+-- Laws of packing seven bytes a group.
 -- Assumes nothing.
-use mathlib.Core.Path.{◌≡◌, refl, ap, ◌∙◌}
-use mathlib.Core.List.{List, [], ◌∷◌, ◌++◌}
-use Prim.Native.Nat.{ℕ, zero, suc, ◌+◌, ◌-◌, ◌*◌, ◌/◌, ◌^◌, ◌≤◌, ◌<◌}
-use native.Mathlib.Numerals.{add-one}
+use mathlib.Core.Path.{◌≡◌, refl, sym, ap, ap₂, ◌∙◌}
+use mathlib.Core.List.{List, [], ◌∷◌, ◌++◌, append-nil}
+use Prim.Native.Nat.{ℕ, zero, suc, ◌+◌, ◌-◌, ◌*◌, ◌/◌, ◌%◌, ◌^◌, ◌≤◌, ◌<◌, min}
 use native.Mathlib.Omega.{arith}
-use lib.ListN.{length, drop, get_or, drop_of_length-le}
-use lib.Seq.{drop-cons}
+use lib.ListN.{length, take, drop, get_or}
+use borrow.Rule.Slice.PartMut.{put_mid}
 use Rattle.util.specs.Packing.{tops, pack}
-use Rattle.write_lists.specs.Writing.{next_left, pack_one}
+use Rattle.util.specs.Splice.{overwritten, splice}
+use Rattle.util.proofs.Laws.Splice.{splice_none, item_turn}
 
-tops_turn : (k i : ℕ) (l : List ℕ) → tops (suc k) (drop i l) ≡ get_or l i 0 / 128 * 2 ^ k + tops k (drop (suc i) l)
-tops_turn zero zero [] = refl
-tops_turn (suc k) zero [] = omega arith
-tops_turn zero (suc i) [] = refl
-tops_turn (suc k) (suc i) [] = omega arith
-tops_turn k zero (x ∷ l) = refl
-tops_turn k (suc i) (x ∷ l) = tops_turn k i l
+-- ---- the top bits
 
--- seven top bits, the first highest
-seven_tops : (l : List ℕ) (i : ℕ)
-    → tops 7 (drop i l)
-    ≡ get_or l i 0 / 128 * 64 + (get_or l (i + 1) 0 / 128 * 32 + (get_or l (i + 2) 0 / 128 * 16 + (get_or l (i + 3) 0 / 128 * 8
-    + (get_or l (i + 4) 0 / 128 * 4 + (get_or l (i + 5) 0 / 128 * 2 + (get_or l (i + 6) 0 / 128 * 1 + 0))))))
-seven_tops l i =
-    let e2 : i + 2 ≡ suc (suc i) = omega arith in
-    let e3 : i + 3 ≡ suc (suc (suc i)) = omega arith in
-    let e4 : i + 4 ≡ suc (suc (suc (suc i))) = omega arith in
-    let e5 : i + 5 ≡ suc (suc (suc (suc (suc i)))) = omega arith in
-    let e6 : i + 6 ≡ suc (suc (suc (suc (suc (suc i))))) = omega arith in
-    rw (
-      add-one i,
-      e2,
-      e3,
-      e4,
-      e5,
-      e6,
-      tops_turn 6 i l,
-      tops_turn 5 (suc i) l,
-      tops_turn 4 (suc (suc i)) l,
-      tops_turn 3 (suc (suc (suc i))) l,
-      tops_turn 2 (suc (suc (suc (suc i)))) l,
-      tops_turn 1 (suc (suc (suc (suc (suc i))))) l,
-      tops_turn 0 (suc (suc (suc (suc (suc (suc i)))))) l,
-    )
+top_double : (y k : ℕ) → y * 2 ^ suc k ≡ 2 * (y * 2 ^ k)
+top_double y k = grind arith
 
--- the same sum as the code makes it
-pub weighed : (l : List ℕ) (i : ℕ) {a b c d e f g : ℕ} → a ≡ get_or l i 0 / 128 → b ≡ get_or l (i + 1) 0 / 128 → c ≡ get_or l (i + 2) 0 / 128
-    → d ≡ get_or l (i + 3) 0 / 128 → e ≡ get_or l (i + 4) 0 / 128 → f ≡ get_or l (i + 5) 0 / 128 → g ≡ get_or l (i + 6) 0 / 128
-    → 64 * a + 32 * b + 16 * c + 8 * d + 4 * e + 2 * f + g ≡ tops 7 (drop i l)
-weighed l i ea eb ec ed ee ef eg = rw (ea, eb, ec, ed, ee, ef, eg, seven_tops l i) (omega arith)
+-- one byte more
+pub tops_more : (k : ℕ) (l : List ℕ) → tops (suc k) l ≡ 2 * tops k l + get_or l k 0 / 128
+tops_more zero [] = refl
+tops_more zero (x ∷ l) = omega arith
+tops_more (suc k) [] = refl
+tops_more (suc k) (x ∷ l) = omega (arith, tops_more k l, top_double (x / 128) k)
 
-pub pack_turn : (k i : ℕ) (l : List ℕ) → i < length l → pack k (drop i l) ≡ pack_one k (drop i l) ++ pack (next_left k) (drop (i + 1) l)
-pack_turn zero i l h = rw (add-one, drop-cons l i 0)
-pack_turn (suc k) i l h = rw (add-one, drop-cons l i 0)
+pub power_small : (i : ℕ) → i < 7 → 2 ^ i ≤ 64
+power_small zero h = omega arith
+power_small (suc zero) h = omega arith
+power_small (suc (suc zero)) h = omega arith
+power_small (suc (suc (suc zero))) h = omega arith
+power_small (suc (suc (suc (suc zero)))) h = omega arith
+power_small (suc (suc (suc (suc (suc zero))))) h = omega arith
+power_small (suc (suc (suc (suc (suc (suc zero)))))) h = omega arith
+power_small (suc (suc (suc (suc (suc (suc (suc i))))))) h = absurd (omega arith)
+
+-- ---- groups
 
 -- "one byte of their top bits" for each seven, "the last group may be shorter"
 pub length_pack : (k : ℕ) (l : List ℕ) → k ≤ 6 → length (pack k l) ≡ length l + (length l - k + 6) / 7
@@ -62,31 +41,40 @@ length_pack (suc k) [] h = omega arith
 length_pack zero (x ∷ l) h = omega (arith, length_pack 6 l (omega arith))
 length_pack (suc k) (x ∷ l) h = omega (arith, length_pack k l (omega arith))
 
-pub next_less : (k : ℕ) → (k ≡ 0 → ⊥) → k - 1 ≡ next_left k
-next_less zero h = absurd (h refl)
-next_less (suc k) h = omega arith
+-- a group of seven, and the others after it
+tops_append : (k : ℕ) (g l : List ℕ) → length g ≡ k → tops k (g ++ l) ≡ tops k g
+tops_append zero g l e = refl
+tops_append (suc k) [] l e = absurd (omega arith)
+tops_append (suc k) (x ∷ g) l e = ap (λ (t : ℕ). x / 128 * 2 ^ k + t) (tops_append k g l (omega arith))
 
-pub next_small : (k : ℕ) → k ≤ 6 → next_left k ≤ 6
-next_small zero h = omega arith
-next_small (suc k) h = omega arith
+pack_append : (k : ℕ) (g l : List ℕ) → length g ≡ k → pack k (g ++ l) ≡ pack k g ++ pack 0 l
+pack_append zero [] l e = refl
+pack_append zero (x ∷ g) l e = absurd (omega arith)
+pack_append (suc k) [] l e = absurd (omega arith)
+pack_append (suc k) (x ∷ g) l e = ap (λ (r : List ℕ). x % 128 ∷ r) (pack_append k g l (omega arith))
 
-pub not_zero : (k : ℕ) → (k ≡ 0 → ⊥) → k ≡ suc (k - 1)
-not_zero zero h = absurd (h refl)
-not_zero (suc k) h = omega arith
+group_append : (g l : List ℕ) → length g ≡ 7 → pack 0 (g ++ l) ≡ pack 0 g ++ pack 0 l
+group_append [] l e = absurd (omega arith)
+group_append (x ∷ g) l e =
+    ap₂ (λ (t : ℕ) (r : List ℕ). t ∷ x % 128 ∷ r) (tops_append 7 (x ∷ g) l e) (pack_append 6 g l (omega arith))
 
-pub one_there : (k : ℕ) (l : List ℕ) → 1 ≤ length (pack_one k l)
-one_there zero l = omega arith
-one_there (suc k) l = omega arith
+-- ---- groups written one after another
 
-pub one_first : (l : List ℕ) (i : ℕ) → get_or l i 0 ≡ get_or (drop i l) 0 0
-one_first [] zero = refl
-one_first [] (suc i) = refl
-one_first (x ∷ l) zero = refl
-one_first (x ∷ l) (suc i) = one_first l i
+-- a group of g bytes has room, where r bytes of s are left after n groups
+pub group_room : (s n r g o : ℕ) → r ≡ s - 7 * n → 0 < r → g ≡ min 7 r → s + (s - 0 + 6) / 7 ≤ o → 8 * n + (1 + g) ≤ o
+group_room s n r g o a b d e = omega arith
 
-pack_nil : (k : ℕ) → pack k [] ≡ []
-pack_nil zero = refl
-pack_nil (suc k) = refl
-
-pub pack_none : (k : ℕ) (l : List ℕ) (i : ℕ) → length l ≤ i → pack k (drop i l) ≡ []
-pack_none k l i h = ap (pack k) (drop_of_length-le l {i = i} h) ∙ pack_nil k
+-- a group is written: those that are left, on what is there, give what they gave
+pub group_step : (g rest out ys z : List ℕ) (n : ℕ) → 0 < length g → length g ≡ min 7 (length g + length rest)
+    → 8 * n + (1 + length g) ≤ length out → ys ≡ overwritten (pack 0 g) (take (length out - 8 * n) (drop (8 * n) out))
+    → splice out (8 * n) (pack 0 (g ++ rest)) ≡ z
+    → splice (put_mid (8 * n) (length out - 8 * n) out ys) (8 * (n + 1)) (pack 0 rest) ≡ z
+group_step g [] out ys z n h f r e w =
+    let u = rw append-nil at w in
+    let t = (item_turn out ys (pack 0 g) [] z (8 * n) (1 + length g) (omega (arith, length_pack 0 g (omega arith))) r e (rw append-nil u)).1 in
+    rw splice_none (sym (splice_none _ (8 * n + (1 + length g))) ∙ t)
+group_step g (x ∷ rest) out ys z n h f r e w =
+    let m : 8 * n + 8 ≡ 8 * (n + 1) = omega arith in
+    let k : length g ≡ 7 = omega arith in
+    let u = rw (group_append g (x ∷ rest) k) at w in
+    rw (← m) (item_turn out ys (pack 0 g) (pack 0 (x ∷ rest)) z (8 * n) 8 (omega (arith, length_pack 0 g (omega arith))) (omega arith) e u).1

@@ -10,7 +10,7 @@ use lib.ListN.{length, take, length-append, length-take, length-map}
 use borrow.Author.Tests.{leb-true}
 use Rattle.util.proofs.Laws.Options.{unless_none}
 use Rattle.util.specs.declared.refusal.Refusal.TheVariants.{Long}
-use Rattle.messages.specs.declared.tuning.MaybeTuning.TheVariants.{Tuned}
+use Rattle.std.specs.Prelude.{Some}
 use Rattle.messages.specs.declared.sample_dump.SampleDumpMsg.{SampleDumpMsg}
 use Rattle.messages.specs.declared.sample_dump.ExtendedSampleDumpMsg.{ExtendedSampleDumpMsg}
 use Rattle.messages.specs.declared.file_dump.FileDumpMsg.{FileDumpMsg}
@@ -19,7 +19,9 @@ use Rattle.messages.specs.declared.file_reference.FileReferenceMsg.{FileReferenc
 use Rattle.messages.specs.declared.system_exclusive.UniversalNonRealTimeMsg.{UniversalNonRealTimeMsg}
 use Rattle.messages.specs.format.Core.{written}
 use Rattle.messages.specs.Fields.{u7, tuning, name_of_16, sample_name, url}
-use Rattle.messages.specs.Structures.{samples, key_tuning}
+use lib.IntN.{ℤ, pos}
+use Rattle.messages.specs.Fields.{s7, s14}
+use Rattle.messages.specs.Structures.{samples, key_tuning, scale_1, scale_2}
 use Rattle.messages.specs.Maps.{sound_file_map}
 use Rattle.messages.specs.Entries.{tuning_of, change_of, map_of}
 use Rattle.messages.specs.Contents.{contents, longer}
@@ -44,7 +46,7 @@ length_name text = exactly_size u7 1 (λ a. refl) 16 (λ i. 0x20) (λ i. refl) t
 
 pub length_keys : (entries : List ℕ) → length (part_keys entries) ≡ 384
 length_keys entries =
-    exactly_size tuning 3 (λ a. refl) 128 (λ i. Tuned (record { semitone = i; fraction = 0 })) (λ i. refl) (map tuning_of entries)
+    exactly_size tuning 3 (λ a. refl) 128 (λ i. Some (record { semitone = i; fraction = 0 })) (λ i. refl) (map tuning_of entries)
 
 length_sample_name : (text : List ℕ) → length (written sample_name text) ≡ 1 + min (length text) 127
 length_sample_name text = counted_size u7 1 (λ a. refl) text ∙ omega arith
@@ -56,6 +58,12 @@ length_changes entries =
 pub length_maps : (entries : List ℕ) → length (part_maps entries) ≡ 1 + 8 * min (length entries) 127
 length_maps entries =
     counted_size sound_file_map 8 (λ a. refl) (map map_of entries) ∙ ap (λ (n : ℕ). 1 + 8 * min n 127) (length-map entries map_of)
+
+pub length_scale_1 : (s : List ℤ) → length (written scale_1 s) ≡ 12
+length_scale_1 s = exactly_size s7 1 (λ a. refl) 12 (λ i. pos 0) (λ i. refl) s
+
+pub length_scale_2 : (s : List ℤ) → length (written scale_2 s) ≡ 24
+length_scale_2 s = exactly_size s14 2 (λ a. refl) 12 (λ i. pos 0) (λ i. refl) s
 
 pub length_url : (text : List ℕ) → length (written url text) ≡ min (length text) 260 + 1
 length_url text = length-append (take 260 text) (0 ∷ []) ∙ omega (arith, length-take 260 text)
@@ -113,12 +121,12 @@ length_part (msg.IdentityReply r) text entries h = refl
 length_part (msg.FileDump m) text entries h = length_file m text
 length_part (msg.TuningBulkDumpRequest b p) text entries h = refl
 length_part (msg.KeyBasedTuningDump k) text entries h = after_name text (part_keys entries) 384 (length_keys entries)
-length_part (msg.ScaleTuningDump1Byte s) text entries h = after_name text _ 12 refl
-length_part (msg.ScaleTuningDump2Byte s) text entries h = after_name text _ 24 refl
+length_part (msg.ScaleTuningDump1Byte s) text entries h = after_name text _ 12 (length_scale_1 s.tuning)
+length_part (msg.ScaleTuningDump2Byte s) text entries h = after_name text _ 24 (length_scale_2 s.tuning)
 length_part (msg.TuningNoteChange c) text entries h =
     length_changes entries ∙ omega (arith, not_longer 127 (map change_of entries) h, length-map entries change_of)
-length_part (msg.ScaleTuning1Byte s) text entries h = refl
-length_part (msg.ScaleTuning2Byte s) text entries h = refl
+length_part (msg.ScaleTuning1Byte s) text entries h = length_scale_1 s.tuning
+length_part (msg.ScaleTuning2Byte s) text entries h = length_scale_2 s.tuning
 length_part (msg.GeneralMidi g) text entries h = refl
 length_part (msg.FileReference m) text entries h = length_reference m text entries
 length_part msg.EOF text entries h = refl

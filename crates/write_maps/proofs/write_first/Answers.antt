@@ -6,5 +6,5 @@ use Rattle.write_maps.proofs.write_first.Goals as goal
 
 pub returns : goal.returns
 returns c =
-    let e : take c.lent-k.result c.args.records ≡ take c.args.n c.args.records = ap (λ (k : ℕ). take k c.args.records) c.lent-k.ensures ∙ first_lent c.args.records c.args.n (omega arith) in
+    let e : take c.min.result c.args.records ≡ take c.args.n c.args.records = ap (λ (k : ℕ). take k c.args.records) c.min.ensures ∙ first_lent c.args.records c.args.n (omega arith) in
     rw e at c.write_maps.ensures

@@ -11,8 +11,7 @@ use Rattle.messages.specs.declared.system_exclusive.ManufacturerID.{Manufacturer
 use Rattle.messages.specs.declared.system_exclusive.ManufacturerID.TheVariants.{OneByte, Extended}
 use Rattle.messages.specs.declared.file_dump.FileDumpMsg.{FileDumpMsg}
 use Rattle.messages.specs.declared.file_dump.FileDumpMsg.TheVariants as file
-use Rattle.messages.specs.declared.tuning.TuningBank.{TuningBank}
-use Rattle.messages.specs.declared.tuning.TuningBank.TheVariants.{NoBank, Bank}
+use Rattle.std.specs.Prelude.{Option, Some, None}
 use Rattle.messages.specs.declared.general_midi.GeneralMidi.{GeneralMidi}
 use Rattle.messages.specs.declared.general_midi.GeneralMidi.TheVariants.{GM1, Off, GM2}
 use Rattle.messages.specs.format.Core.{written}
@@ -39,14 +38,14 @@ file_parts v (file.Header s t l) text y = rw (device_held s, letters_same (held_
 file_parts v (file.Packet c) text y = rw (held_bytes_same text y)
 file_parts v (file.Request r t) text y = rw (device_held r, letters_same (held_four (type_chars t)))
 
-pub request_parts : (v : ℕ) (b : TuningBank) (p : ℕ) → body_of v (head_request b) (fields_request b p) ≡ front_request v b p ++ []
-request_parts v NoBank p = refl
-request_parts v (Bank b) p = refl
+pub request_parts : (v : ℕ) (b : Option ℕ) (p : ℕ) → body_of v (head_request b) (fields_request b p) ≡ front_request v b p ++ []
+request_parts v None p = refl
+request_parts v (Some b) p = refl
 
-pub keys_parts : (v : ℕ) (b : TuningBank) (p : ℕ) (text entries : List ℕ)
+pub keys_parts : (v : ℕ) (b : Option ℕ) (p : ℕ) (text entries : List ℕ)
     → body_of v (head_keys b) (fields_keys b p text entries) ≡ front_keys v b p ++ (written name_of_16 text ++ part_keys entries)
-keys_parts v NoBank p text entries = refl
-keys_parts v (Bank b) p text entries = refl
+keys_parts v None p text entries = refl
+keys_parts v (Some b) p text entries = refl
 
 pub midi_parts : (v : ℕ) (g : GeneralMidi) → body_of v (head_midi g) (fields_midi g) ≡ front_midi v g ++ []
 midi_parts v GM1 = refl

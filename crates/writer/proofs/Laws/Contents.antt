@@ -1,24 +1,21 @@
 -- Laws of refusals: a scan of a URL, the order of a file header's, and what the messages are refused for.
 -- Assumes nothing.
 use mathlib.Core.Path.{◌≡◌, refl, ap}
-use mathlib.Core.Bool.{Bool, true, false}
+use mathlib.Core.Bool.{Bool, true, false, ◌&&◌}
 use mathlib.Core.Option.{none, some}
 use mathlib.Core.List.{List, [], ◌∷◌, map}
-use Prim.Native.Nat.{ℕ, zero, suc, ◌+◌, ◌≤◌, ◌<◌}
-use native.Mathlib.Numerals.{add-one}
+use Prim.Native.Nat.{ℕ, zero, suc}
 use native.Mathlib.Omega.{arith}
-use lib.Dec.{leb}
-use lib.ListN.{length, drop, get_or, drop_of_length-le}
-use lib.Seq.{drop-cons}
-use borrow.Author.Tests.{lt-ltb, le-ltb}
+use lib.Dec.{leb, ltb}
+use lib.ListN.{length}
+use borrow.Author.Tests.{lt-ltb}
 use Rattle.util.specs.Limits.{most_changes}
 use Rattle.util.specs.Pick.{pick}
 use Rattle.util.specs.Options.{unless}
 use Rattle.util.specs.declared.refusal.Refusal.TheVariants.{High, Long, Value}
 use Rattle.messages.specs.declared.sample_dump.SampleDumpMsg.{SampleDumpMsg}
 use Rattle.messages.specs.declared.sample_dump.SampleDumpMsg.TheVariants as sample
-use Rattle.messages.specs.declared.tuning.TuningBank.{TuningBank}
-use Rattle.messages.specs.declared.tuning.TuningBank.TheVariants.{NoBank, Bank}
+use Rattle.std.specs.Prelude.{Option, Some, None}
 use Rattle.messages.specs.declared.general_midi.GeneralMidi.{GeneralMidi}
 use Rattle.messages.specs.declared.general_midi.GeneralMidi.TheVariants.{GM1, Off, GM2}
 use Rattle.messages.specs.declared.file_reference.FileReferenceType.{FileReferenceType}
@@ -33,27 +30,11 @@ use Rattle.messages.specs.Entries.{change_of}
 use Rattle.messages.specs.Contents.{contents, longer, other_kind}
 use Rattle.messages.specs.MessageOf.{head_sample, fields_sample, head_request, fields_request, head_keys, fields_keys, head_midi, fields_midi, head_select, fields_select, any_select}
 
--- ---- a scan of a URL: one more byte, a byte that is refused, and the end
+-- ---- a URL, byte by byte
 
-text_more : (b : ℕ) (l : List ℕ) → (b ≡ 0 → ⊥) → b ≤ 127 → is_text (b ∷ l) ≡ is_text l
-text_more zero l n h = absurd (n refl)
-text_more (suc b) l n h = rw (lt-ltb (suc b) 128 (omega arith))
-
-text_not : (b : ℕ) (l : List ℕ) → 127 < b → is_text (b ∷ l) ≡ false
-text_not zero l h = absurd (omega arith)
-text_not (suc b) l h = rw (le-ltb (suc b) 128 (omega arith))
-
-pub text_turn : (s : List ℕ) (i : ℕ) → i < length s → (get_or s i 0 ≡ 0 → ⊥) → get_or s i 0 ≤ 127 → is_text (drop (i + 1) s) ≡ is_text (drop i s)
-text_turn s i h n l = rw (add-one, drop-cons s i 0, text_more (get_or s i 0) (drop (suc i) s) n l)
-
-pub text_zero : (s : List ℕ) (i : ℕ) → i < length s → get_or s i 0 ≡ 0 → is_text (drop i s) ≡ false
-text_zero s i h e = rw (drop-cons s i 0, e)
-
-pub text_high : (s : List ℕ) (i : ℕ) → i < length s → 127 < get_or s i 0 → is_text (drop i s) ≡ false
-text_high s i h l = rw (drop-cons s i 0, text_not (get_or s i 0) (drop (suc i) s) l)
-
-pub text_done : (s : List ℕ) (i : ℕ) → length s ≤ i → is_text (drop i s) ≡ true
-text_done s i h = ap is_text (drop_of_length-le s {i = i} h)
+pub text_step : (b : ℕ) (l : List ℕ) → is_text (b ∷ l) ≡ ((ltb 0 b && ltb b 128) && is_text l)
+text_step zero l = refl
+text_step (suc b) l = rw (lt-ltb 0 (suc b) (omega arith))
 
 -- ---- the order: HIGH, LONG, VALUE, KIND
 
@@ -125,13 +106,13 @@ sample_none (sample.Request n) text = refl
 sample_none (sample.LoopPointTransmission n i t s e) text = refl
 sample_none (sample.LoopPointsRequest n i) text = refl
 
-pub request_none : (b : TuningBank) (p : ℕ) → contents (head_request b) (fields_request b p) ≡ none
-request_none NoBank p = refl
-request_none (Bank b) p = refl
+pub request_none : (b : Option ℕ) (p : ℕ) → contents (head_request b) (fields_request b p) ≡ none
+request_none None p = refl
+request_none (Some b) p = refl
 
-pub keys_high : (b : TuningBank) (p : ℕ) (text entries : List ℕ) → contents (head_keys b) (fields_keys b p text entries) ≡ high text
-keys_high NoBank p text entries = refl
-keys_high (Bank b) p text entries = refl
+pub keys_high : (b : Option ℕ) (p : ℕ) (text entries : List ℕ) → contents (head_keys b) (fields_keys b p text entries) ≡ high text
+keys_high None p text entries = refl
+keys_high (Some b) p text entries = refl
 
 pub midi_none : (g : GeneralMidi) → contents (head_midi g) (fields_midi g) ≡ none
 midi_none GM1 = refl

@@ -1,9 +1,8 @@
 -- The frame of a handshake message.
 -- Assumes nothing.
-use mathlib.Core.Path.{◌≡◌, refl, ap₂, ◌∙◌}
+use mathlib.Core.Path.{◌≡◌, refl, ap, ap₂, ◌∙◌}
 use mathlib.Core.List.{List}
 use Prim.Native.Nat.{ℕ}
-use native.Mathlib.Omega.{arith}
 use lib.ListN.{length}
 use Rattle.util.specs.Packing.{Bytes}
 use Rattle.messages.specs.declared.system_exclusive.DeviceID.{DeviceID}
@@ -12,7 +11,7 @@ use Rattle.messages.specs.declared.system_exclusive.UniversalNonRealTimeMsg.TheV
 use Rattle.messages.specs.Fields.{device_byte}
 use Rattle.messages.specs.Messages.{Answer, given, write_of}
 use Rattle.messages.specs.MessageOf.{message_of}
-use Rattle.writer.specs.declared.handshake.Handshake.TheVariants.{Of, Other}
+use Rattle.std.specs.Prelude.{Option, Some}
 use Rattle.writer.specs.Frames.{wire, frame_of}
 use Rattle.writer.specs.Handshakes.{handshake_of, handshake_frame}
 use Rattle.writer.proofs.Laws.Answers.{write_frame}
@@ -22,34 +21,32 @@ pub six : (d a n : ℕ) → length (handshake_frame d a n) ≡ 6
 unfolding wire
 six d a n = refl
 
-not_other : {A : Type 0} (a n : ℕ) → Other ≡ Of a n → A
-not_other a n e = absurd (let z : ◌≡◌ {A = ℕ} 0 1 = cc in omega arith)
-
 -- the same head and number
-same : (d a b n k : ℕ) → Of a n ≡ Of b k → ◌≡◌ {A = Answer (List ℕ)} (given (handshake_frame d a n)) (given (handshake_frame d b k))
+same : (d a b n k : ℕ) → ◌≡◌ {A = Option (ℕ × ℕ)} (Some (a, n)) (Some (b, k)) → ◌≡◌ {A = Answer (List ℕ)} (given (handshake_frame d a n)) (given (handshake_frame d b k))
 same d a b n k e =
-    let f : a ≡ b = cc in
-    let g : n ≡ k = cc in
+    let p : ◌≡◌ {A = ℕ × ℕ} (a, n) (b, k) = cc in
+    let f : a ≡ b = ap (λ (t : ℕ × ℕ). t.0) p in
+    let g : n ≡ k = ap (λ (t : ℕ × ℕ). t.1) p in
     ap₂ (λ (x y : ℕ). given (handshake_frame d x y)) f g
 
 -- what is written of a handshake message
-pub handshake_written : (d : DeviceID) (m : UniversalNonRealTimeMsg) (text entries : List ℕ) (a n : ℕ) → handshake_of m ≡ Of a n → Bytes text
+pub handshake_written : (d : DeviceID) (m : UniversalNonRealTimeMsg) (text entries : List ℕ) (a n : ℕ) → handshake_of m ≡ Some (a, n) → Bytes text
     → write_of (message_of d m text entries) ≡ given (handshake_frame (device_byte d) a n)
 unfolding frame_of
-handshake_written d (msg.SampleDump m) text entries a n e y = not_other a n e
-handshake_written d (msg.ExtendedSampleDump m) text entries a n e y = not_other a n e
-handshake_written d msg.IdentityRequest text entries a n e y = not_other a n e
-handshake_written d (msg.IdentityReply r) text entries a n e y = not_other a n e
-handshake_written d (msg.FileDump m) text entries a n e y = not_other a n e
-handshake_written d (msg.TuningBulkDumpRequest b p) text entries a n e y = not_other a n e
-handshake_written d (msg.KeyBasedTuningDump k) text entries a n e y = not_other a n e
-handshake_written d (msg.ScaleTuningDump1Byte s) text entries a n e y = not_other a n e
-handshake_written d (msg.ScaleTuningDump2Byte s) text entries a n e y = not_other a n e
-handshake_written d (msg.TuningNoteChange c) text entries a n e y = not_other a n e
-handshake_written d (msg.ScaleTuning1Byte s) text entries a n e y = not_other a n e
-handshake_written d (msg.ScaleTuning2Byte s) text entries a n e y = not_other a n e
-handshake_written d (msg.GeneralMidi g) text entries a n e y = not_other a n e
-handshake_written d (msg.FileReference m) text entries a n e y = not_other a n e
+handshake_written d (msg.SampleDump m) text entries a n e y = cc
+handshake_written d (msg.ExtendedSampleDump m) text entries a n e y = cc
+handshake_written d msg.IdentityRequest text entries a n e y = cc
+handshake_written d (msg.IdentityReply r) text entries a n e y = cc
+handshake_written d (msg.FileDump m) text entries a n e y = cc
+handshake_written d (msg.TuningBulkDumpRequest b p) text entries a n e y = cc
+handshake_written d (msg.KeyBasedTuningDump k) text entries a n e y = cc
+handshake_written d (msg.ScaleTuningDump1Byte s) text entries a n e y = cc
+handshake_written d (msg.ScaleTuningDump2Byte s) text entries a n e y = cc
+handshake_written d (msg.TuningNoteChange c) text entries a n e y = cc
+handshake_written d (msg.ScaleTuning1Byte s) text entries a n e y = cc
+handshake_written d (msg.ScaleTuning2Byte s) text entries a n e y = cc
+handshake_written d (msg.GeneralMidi g) text entries a n e y = cc
+handshake_written d (msg.FileReference m) text entries a n e y = cc
 handshake_written d msg.EOF text entries a n e y = write_frame d msg.EOF text entries refl y tt ∙ same (device_byte d) 0x7B a 0 n e
 handshake_written d msg.Wait text entries a n e y = write_frame d msg.Wait text entries refl y tt ∙ same (device_byte d) 0x7C a 0 n e
 handshake_written d msg.Cancel text entries a n e y = write_frame d msg.Cancel text entries refl y tt ∙ same (device_byte d) 0x7D a 0 n e

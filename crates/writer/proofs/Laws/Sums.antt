@@ -1,4 +1,4 @@
--- Which messages end in a checksum, and the checksum as a part of a frame.
+-- The checksum as a part of a frame.
 -- Assumes nothing.
 use mathlib.Core.Path.{◌≡◌, refl, ap, ap₂, ◌∙◌}
 use mathlib.Core.Bool.{Bool, true, false}
@@ -8,17 +8,8 @@ use native.Mathlib.Omega.{arith}
 use lib.ListN.{length, take, drop, length-append}
 use lib.Seq.{take_at}
 use Rattle.util.proofs.Laws.Splice.{Run}
-use Rattle.messages.specs.declared.sample_dump.ExtendedSampleDumpMsg.{ExtendedSampleDumpMsg}
-use Rattle.messages.specs.declared.sample_dump.ExtendedSampleDumpMsg.TheVariants as extended
-use Rattle.messages.specs.declared.tuning.TuningBank.{TuningBank}
-use Rattle.messages.specs.declared.tuning.TuningBank.TheVariants.{NoBank, Bank}
-use Rattle.messages.specs.declared.general_midi.GeneralMidi.{GeneralMidi}
-use Rattle.messages.specs.declared.general_midi.GeneralMidi.TheVariants.{GM1, Off, GM2}
-use Rattle.messages.specs.declared.file_reference.SelectMap.TheVariants as select
-use Rattle.messages.specs.declared.file_reference.FileReferenceMsg.{FileReferenceMsg}
-use Rattle.messages.specs.declared.file_reference.FileReferenceMsg.TheVariants as reference
 use Rattle.messages.specs.Layouts.{summed}
-use Rattle.messages.specs.MessageOf.{head_of, head_extended, head_request, head_keys, head_midi, head_reference}
+use Rattle.messages.specs.MessageOf.{head_of}
 use Rattle.messages.specs.declared.system_exclusive.DeviceID.{DeviceID}
 use Rattle.messages.specs.declared.system_exclusive.UniversalNonRealTimeMsg.{UniversalNonRealTimeMsg}
 use Rattle.messages.specs.Fields.{device_byte}
@@ -28,37 +19,6 @@ use Rattle.write_fronts.proofs.Laws.{front_length}
 use Rattle.write_lists.specs.Parts.{part_of}
 use Rattle.writer.specs.declared.Sizes.{Sizes}
 use Rattle.writer.specs.Frames.{sum_of, wire, frame_of, SizesOf}
-
--- ---- which messages have one
-
-pub extended_sum : (m : ExtendedSampleDumpMsg) → summed (head_extended m) ≡ false
-extended_sum (extended.SampleName n) = refl
-extended_sum (extended.SampleNameRequest n) = refl
-extended_sum (extended.Header n f w r l s e t c) = refl
-extended_sum (extended.LoopPointTransmission n i t s e) = refl
-extended_sum (extended.LoopPointsRequest n i) = refl
-
-pub request_sum : (b : TuningBank) → summed (head_request b) ≡ false
-request_sum NoBank = refl
-request_sum (Bank b) = refl
-
-pub keys_sum : (b : TuningBank) → summed (head_keys b) ≡ true
-keys_sum NoBank = refl
-keys_sum (Bank b) = refl
-
-pub midi_sum : (g : GeneralMidi) → summed (head_midi g) ≡ false
-midi_sum GM1 = refl
-midi_sum Off = refl
-midi_sum GM2 = refl
-
-pub reference_sum : (m : FileReferenceMsg) → summed (head_reference m) ≡ false
-reference_sum (reference.Open c t) = refl
-reference_sum (reference.SelectContents c select.SoundFile) = refl
-reference_sum (reference.SelectContents c (select.WAV m)) = refl
-reference_sum (reference.SelectContents c (select.SoundFileBankOffset o d)) = refl
-reference_sum (reference.SelectContents c (select.WAVBankOffset m o d)) = refl
-reference_sum (reference.OpenSelectContents c t m) = refl
-reference_sum (reference.Close c) = refl
 
 -- ---- the checksum in a frame
 

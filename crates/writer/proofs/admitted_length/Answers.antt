@@ -5,4 +5,4 @@ use Rattle.writer.proofs.admitted_length.Goals as goal
 
 pub returns : goal.returns
 returns c =
-    total_is c.sizes_of-s.result c.args.device c.args.m c.args.text.now c.args.entries.now _ c.sizes_of-s.ensures c.total_of.ensures
+    total_is c.of.result c.args.device c.args.m c.args.text.now c.args.entries.now _ c.of.ensures c.total.ensures

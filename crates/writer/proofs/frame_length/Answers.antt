@@ -1,23 +1,17 @@
 -- `writer::frame_length` meets its contract, by what the test of the contents tells.
 -- Assumes nothing.
 use mathlib.Core.Path.{sym, ap, ◌∙◌}
-use native.Mathlib.Omega.{arith}
-use Rattle.writer.specs.declared.Length.TheVariants.{Bytes}
+use borrow.Author.Rules.{rules}
+use Rattle.std.specs.Prelude.{Ok}
 use Rattle.writer.proofs.Laws.Whole.{channels_fit}
 use Rattle.writer.proofs.Laws.Answers.{told_none, told_some, bytes_all, write_frame, write_refused}
 use Rattle.writer.proofs.frame_length.Goals as goal
 
-pub admitted_length-requires : goal.admitted_length-requires
-admitted_length-requires c =
-    told_none _ (sym c.refused-told.ensures ∙ c.in-Admitted.is)
+pub returns-in-Ok : goal.returns-in-Ok
+returns-in-Ok c =
+    rw (write_frame c.args.device c.args.m c.args.text.now c.args.entries.now (told_none _ (sym c.refused.ensures ∙ c.in-Ok.is))
+    (bytes_all c.args.text.now (λ i. search rules)) (channels_fit c.args.m c.well_formed.1.0))
+    (ap Ok c.admitted_length.ensures)
 
-pub returns-in-Admitted : goal.returns-in-Admitted
-returns-in-Admitted c =
-    rw (write_frame c.args.device c.args.m c.args.text.now c.args.entries.now (told_none _ (sym c.refused-told.ensures ∙ c.in-Admitted.is))
-    (bytes_all c.args.text.now (λ i. omega (arith, c.shared_slice_known-1.given i))) (channels_fit c.args.m c.well_formed.1.0))
-    (ap Bytes c.admitted_length.ensures)
-
-pub returns-in-Refused : goal.returns-in-Refused
-returns-in-Refused c =
-    rw (write_refused c.args.device c.args.m c.args.text.now c.args.entries.now c.in-Refused.r
-    (told_some _ c.in-Refused.r (sym c.refused-told.ensures ∙ c.in-Refused.is)))
+pub returns-in-Err : goal.returns-in-Err
+returns-in-Err c = rw (write_refused c.args.device c.args.m c.args.text.now c.args.entries.now _ (told_some _ _ (sym c.refused.ensures ∙ c.in-Err.is)))

@@ -14,9 +14,9 @@ use Rattle.writer.proofs.put_frame.Goals.{Start}
 
 -- the sizes are those of the front and the part
 sizes : (c : Start)
-    → Sized c.args.out.now (front_of c.args.d c.args.m (length c.args.text.now) (length c.args.entries.now)) (part_of c.args.m c.args.text.now c.args.entries.now) c.args.sum c.args.size c.args.part
+    → Sized c.args.out.now (front_of c.args.d c.args.m (length c.args.text.now) (length c.args.entries.now)) (part_of c.args.m c.args.text.now c.args.entries.now) c.args.s.sum c.args.s.front c.args.s.part
 sizes c =
-    sized _ (front_of c.args.d c.args.m (length c.args.text.now) (length c.args.entries.now)) (part_of c.args.m c.args.text.now c.args.entries.now) c.args.sum _ _
+    sized _ (front_of c.args.d c.args.m (length c.args.text.now) (length c.args.entries.now)) (part_of c.args.m c.args.text.now c.args.entries.now) c.args.s.sum _ _
     (front_length c.args.d c.args.m (length c.args.text.now) (length c.args.entries.now) ∙ sym c.requires.1) (sym c.requires.2) c.requires.3
 
 pub bounds-out-0 : goal.bounds-out-0

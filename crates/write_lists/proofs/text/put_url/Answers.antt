@@ -10,21 +10,21 @@ use Rattle.util.proofs.Laws.Splice.{Run, run_set}
 use Rattle.write_lists.proofs.Laws.Fronts.{fronts}
 use Rattle.write_lists.proofs.Laws.Texts.{url_is}
 use Rattle.write_lists.proofs.text.put_url.Goals as goal
-use Rattle.write_lists.proofs.text.put_url.Goals.{After-at_most-n}
+use Rattle.write_lists.proofs.text.put_url.Goals.{After-min-n}
 
 -- the bytes that are kept
-many : (c : After-at_most-n) → length (take c.at_most-n.result c.args.s.now) ≡ c.at_most-n.result
-many c = length-take-le c.at_most-n.result c.args.s.now (omega (arith, c.at_most-n.ensures))
+many : (c : After-min-n) → length (take c.min-n.result c.args.s.now) ≡ c.min-n.result
+many c = length-take-le c.min-n.result c.args.s.now (omega (arith, c.min-n.ensures))
 
 pub slice_bounds-copy-end : goal.slice_bounds-copy-end
-slice_bounds-copy-end c = sym (many (goal.at.slice_bounds-copy-end c).After-at_most-n)
+slice_bounds-copy-end c = sym (many (goal.at.slice_bounds-copy-end c).After-min-n)
 
 pub copy-requires : goal.copy-requires
-copy-requires c = omega (arith, many (goal.at.copy-requires c).After-at_most-n, c.at_most-n.ensures, c.requires)
+copy-requires c = omega (arith, many (goal.at.copy-requires c).After-min-n, c.min-n.ensures, c.requires)
 
 pub returns : goal.returns
 returns c =
-    let r : Run c.args.out.now (take c.at_most-n.result c.args.s.now) c.copy.new.out c.at_most-n.result =
-    record { is = c.copy.ensures; len = many (goal.at.returns c).After-at_most-n; fits = omega (arith, c.requires, c.at_most-n.ensures) } in
-    (run_set r 0 (omega (arith, c.requires, c.at_most-n.ensures))).is
-    ∙ fronts c.args.out.now (ap (λ (v : ℕ). take v c.args.s.now ++ (0 ∷ [])) c.at_most-n.ensures ∙ sym (url_is c.args.s.now))
+    let r : Run c.args.out.now (take c.min-n.result c.args.s.now) c.copy.new.out c.min-n.result =
+    record { is = c.copy.ensures; len = many (goal.at.returns c).After-min-n; fits = omega (arith, c.requires, c.min-n.ensures) } in
+    (run_set r 0 (omega (arith, c.requires, c.min-n.ensures))).is
+    ∙ fronts c.args.out.now (ap (λ (v : ℕ). take v c.args.s.now ++ (0 ∷ [])) c.min-n.ensures ∙ sym (url_is c.args.s.now))
