@@ -20,7 +20,7 @@ use Rattle.messages.specs.declared.sample_dump.ExtendedLoopType.{ExtendedLoopTyp
 use Rattle.messages.specs.declared.sample_dump.ExtendedLoopType.TheVariants as ext
 use Rattle.messages.specs.declared.system_exclusive.ManufacturerID.{ManufacturerID}
 use Rattle.messages.specs.declared.system_exclusive.ManufacturerID.TheVariants.{OneByte, Extended}
-use Rattle.messages.specs.Fields.{u7, tuning}
+use Rattle.messages.specs.Fields.{u7, s7, s14, tuning}
 use Rattle.messages.specs.Structures.{AfterMaker, key_tuning, loop_code, extended_loop_code, reply, revision, identity_reply}
 use Rattle.messages.specs.Maps.{BankSelect, WAVSelect, AnySelect, map_list, map_offset, only_wav_map, wav_map_offset, of_bank, of_wav, bank_select, wav_select, select_for, reference_size, maps_size}
 use Rattle.messages.specs.Layouts.{Fields, form, summed, code}
@@ -98,11 +98,11 @@ short head.TuningBulkDumpRequest f h = omega arith
 short head.KeyBasedTuningDump f h = simp length-append (omega (arith, all_size u7 1 (λ a. refl) f.name, all_size tuning 3 (λ a. refl) f.tunings))
 short head.BankTuningBulkDumpRequest f h = omega arith
 short head.BankKeyBasedTuningDump f h = simp length-append (omega (arith, all_size u7 1 (λ a. refl) f.name, all_size tuning 3 (λ a. refl) f.tunings))
-short head.ScaleTuningDump1Byte f h = simp length-append (omega (arith, all_size u7 1 (λ a. refl) f.name))
-short head.ScaleTuningDump2Byte f h = simp length-append (omega (arith, all_size u7 1 (λ a. refl) f.name))
+short head.ScaleTuningDump1Byte f h = simp length-append (omega (arith, all_size u7 1 (λ a. refl) f.name, all_size s7 1 (λ a. refl) f.scale))
+short head.ScaleTuningDump2Byte f h = simp length-append (omega (arith, all_size u7 1 (λ a. refl) f.name, all_size s14 2 (λ a. refl) f.scale))
 short head.TuningNoteChange f h = simp length-append (omega (arith, all_size key_tuning 4 (λ a. refl) f.changes))
-short head.ScaleTuning1Byte f h = omega arith
-short head.ScaleTuning2Byte f h = omega arith
+short head.ScaleTuning1Byte f h = simp length-append (omega (arith, all_size s7 1 (λ a. refl) f.scale))
+short head.ScaleTuning2Byte f h = simp length-append (omega (arith, all_size s14 2 (λ a. refl) f.scale))
 short head.GeneralMidi1 f h = omega arith
 short head.GeneralMidiOff f h = omega arith
 short head.GeneralMidi2 f h = omega arith

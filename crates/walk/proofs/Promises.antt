@@ -10,23 +10,22 @@ use lib.Seq.{drop-drop}
 use borrow.Author.Tests.{ltb-true, ltb-false}
 use Rattle.util.specs.Limits.{most_stream}
 use Rattle.util.specs.Splice.{overwritten}
-use Rattle.util.specs.declared.refusal.Refusal.TheVariants.{Stream, Index}
 use Rattle.messages.specs.declared.file_reference.Kind.{Kind}
 use Rattle.messages.specs.Walk.{Stretch, Listed, Rising, since, frames}
 use Rattle.messages.proofs.Exact.{frame_unique}
 use Rattle.messages.proofs.Walk.{bool_cases, listed_exactly, listed_rising, same_from_there}
 use Rattle.reader.specs.Promises.{Read}
 use Rattle.reader.proofs.Promises.{gives_exactly, same_answer}
-use Rattle.walk.specs.declared.Walked.{Walked}
-use Rattle.walk.specs.declared.Walked.TheVariants.{Frames, Refused}
-use Rattle.walk.specs.Answer.{walked_number, walked_value, flat, how_many, WalkMet}
+use Rattle.std.specs.Prelude.{Ok, Err}
+use Rattle.walk.specs.declared.WalkError.TheVariants.{Stream, Index}
+use Rattle.walk.specs.Answer.{Walked, walked_number, walked_value, flat, how_many, WalkMet}
 use Rattle.walk.specs.Promises.{Walk, listed, stretch, ListsExactly, ListsRising, ReadsListed, Agree, SamePairs, SameReadings, StreamExactly, IndexExactly, CountsFrames, RefusedKept, RestKept, OneWalk}
 use Rattle.walk.proofs.Laws.Index.{pairs_flat, front_rest}
 use Rattle.walk.proofs.Laws.Answers.{too_long, too_many, enough}
 
 -- ---- what is listed
 
-walk_says : (k : Kind) (w : Walked) (s ix ix' : List ℕ) → Walk k w s ix ix' → w ≡ Frames (how_many k s)
+walk_says : (k : Kind) (w : Walked) (s ix ix' : List ℕ) → Walk k w s ix ix' → w ≡ Ok (how_many k s)
 walk_says k w s ix ix' c = c.met.says ∙ sym (enough k s ix c.short c.long_enough).0
 
 walk_leaves : (k : Kind) (w : Walked) (s ix ix' : List ℕ) → Walk k w s ix ix' → ix' ≡ overwritten (flat (frames k s)) ix
@@ -79,13 +78,13 @@ same_readings k s t a b o l p q dat dat' es es' dau dau' et et' g c d hd he =
 -- ---- rows 11 and 12
 
 module _ (k : Kind) (w : Walked) (s ix ix' : List ℕ) (c : WalkMet w k s ix ix') where
-  long_says : most_stream < length s → (w ≡ Refused Stream 0) × (ix' ≡ ix)
+  long_says : most_stream < length s → (w ≡ Err Stream) × (ix' ≡ ix)
   long_says h = let p = too_long k s ix h in (c.says ∙ sym p.0, c.index_is ∙ sym p.1)
 
-  many_says : length s ≤ most_stream → length ix / 2 < how_many k s → (w ≡ Refused Index (how_many k s)) × (ix' ≡ ix)
+  many_says : length s ≤ most_stream → length ix / 2 < how_many k s → (w ≡ Err (Index (how_many k s))) × (ix' ≡ ix)
   many_says h m = let p = too_many k s ix h m in (c.says ∙ sym p.0, c.index_is ∙ sym p.1)
 
-  enough_says : length s ≤ most_stream → how_many k s ≤ length ix / 2 → w ≡ Frames (how_many k s)
+  enough_says : length s ≤ most_stream → how_many k s ≤ length ix / 2 → w ≡ Ok (how_many k s)
   enough_says h m = c.says ∙ sym (enough k s ix h m).0
 
   -- one of the three

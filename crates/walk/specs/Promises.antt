@@ -1,6 +1,7 @@
 -- Demand 3, as propositions over the contracts of `walk` and `read`: the theorems of proofs/ have these types.
-use Rattle.std.specs.Prelude.{◌≡◌, ◌↔◌, ◌⊎◌, List, ℕ, ◌+◌, ◌*◌, ◌/◌, ◌≤◌, ◌<◌, length, get_or, take, drop}
+use Rattle.std.specs.Prelude.{◌≡◌, ◌↔◌, ◌⊎◌, List, ℕ, ◌+◌, ◌*◌, ◌/◌, ◌≤◌, ◌<◌, length, get_or, take, drop, Result}
 use Rattle.util.specs.Limits.{most_frame, most_stream}
+use Rattle.util.specs.declared.refusal.Refusal.{Refusal}
 use Rattle.messages.specs.declared.file_reference.Kind.{Kind}
 use Rattle.messages.specs.Messages.{Message, given, SettledFor}
 use Rattle.messages.specs.Promises.{IsFrame, IsFrameFor}
@@ -8,8 +9,7 @@ use Rattle.messages.specs.Walk.{Stretch, Listed, Rising, since, frames}
 use Rattle.reader.specs.declared.lent.Reading.{Reading}
 use Rattle.reader.specs.Reading.{said}
 use Rattle.reader.specs.Promises.{Read, Enough, SamePut}
-use Rattle.walk.specs.declared.Walked.{Walked}
-use Rattle.walk.specs.Answer.{walked_number, walked_value, pairs, how_many, WalkMet}
+use Rattle.walk.specs.Answer.{Walked, walked_number, walked_value, pairs, how_many, WalkMet}
 
 -- "Take any stream of up to 65,535 bytes, whatever they are, read for a named kind of sound file with an index long enough":
 -- a call of `walk` over s for the kind k that was lent the index ix, answered w and left ix'. "An index is long enough where INDEX does not apply"
@@ -39,7 +39,7 @@ ListsRising =
     → Rising (listed w ix') × (walked_number w ≡ 0) × (walked_value w ≡ length (listed w ix'))
 
 -- the message that a reading gives, the only one settled for the kind whose frame the bytes are
-pub record GivesTheOnly (k : Kind) (r : Reading) (frame dat' es' : List ℕ) : Type 0 where
+pub record GivesTheOnly (k : Kind) (r : Result Reading Refusal) (frame dat' es' : List ℕ) : Type 0 where
   pub message : Message
   pub is_given : said r frame dat' es' ≡ given message
   pub settled : SettledFor k message
@@ -53,7 +53,7 @@ EnoughFor k frame dat es = (m : Message) → SettledFor k m → IsFrame m frame 
 -- "Reading a listed stretch for that kind with enough space gives the only message settled for that kind whose frame it is"
 abbrev pub ReadsListed : Type 0
 ReadsListed =
-    (k : Kind) (w : Walked) (s ix ix' : List ℕ) (o l : ℕ) (r : Reading) (dat dat' es es' : List ℕ) → Walk k w s ix ix'
+    (k : Kind) (w : Walked) (s ix ix' : List ℕ) (o l : ℕ) (r : Result Reading Refusal) (dat dat' es es' : List ℕ) → Walk k w s ix ix'
     → Listed (o, l) (listed w ix') → Read k r (stretch s o l) dat dat' es es' → EnoughFor k (stretch s o l) dat es
     → GivesTheOnly k r (stretch s o l) dat' es'
 
@@ -75,7 +75,7 @@ SamePairs =
 -- The same is put into the space of both
 abbrev pub SameReadings : Type 0
 SameReadings =
-    (k : Kind) (s t : List ℕ) (a b o l : ℕ) (p q : Reading) (dat dat' es es' dau dau' et et' : List ℕ) → Agree s t a b
+    (k : Kind) (s t : List ℕ) (a b o l : ℕ) (p q : Result Reading Refusal) (dat dat' es es' dau dau' et et' : List ℕ) → Agree s t a b
     → Read k p (stretch s (a + o) l) dat dat' es es' → Read k q (stretch t (b + o) l) dau dau' et et'
     → length dat ≡ length dau → length es ≡ length et
     → (p ≡ q) × SamePut dat dat' dau dau' × SamePut es es' et et'

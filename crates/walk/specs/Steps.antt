@@ -1,13 +1,9 @@
 -- What the steps of the walk find in a stream and put into an index.
-use Rattle.std.specs.Prelude.{◌≡◌, Bool, not, List, [], ◌∷◌, ℕ, suc, ◌+◌, ◌*◌, ◌<◌, ◌≤◌, ltb, eqb, length, get_or, drop, set}
+use Rattle.std.specs.Prelude.{◌≡◌, Bool, not, List, [], ◌∷◌, ℕ, ◌+◌, ◌*◌, ◌<◌, ◌≤◌, ltb, eqb, length, get_or, drop, set}
+use Rattle.std.specs.List.{prefix_len}
 use Rattle.util.specs.Pick.{pick}
 use Rattle.messages.specs.declared.file_reference.Kind.{Kind}
 use Rattle.messages.specs.Walk.{Stretch, stretches, is_frame}
-
--- how many bytes a list begins with that pass a test
-unfoldable pub run : (ℕ → Bool) → List ℕ → ℕ
-run test [] = 0
-run test (b ∷ r) = pick (test b) (suc (run test r)) 0
 
 -- a byte below 128
 abbrev pub is_low : ℕ → Bool
@@ -25,7 +21,7 @@ from k s a = stretches (is_frame k) a (drop a s)
 pub record Closed (s : List ℕ) (start e : ℕ) : Type 0 where
   pub first : get_or s start 0 ≡ 0xF0
   pub second : get_or s (start + 1) 0 ≡ 0x7E
-  pub ends : e ≡ (start + 1) + run is_low (drop (start + 1) s)
+  pub ends : e ≡ (start + 1) + prefix_len is_low (drop (start + 1) s)
   pub fits : e < length s
   pub last : get_or s e 0 ≡ 0xF7
 
@@ -34,6 +30,15 @@ pub record Reached (s : List ℕ) (at start e : ℕ) : Type 0 where
   pub ahead : at ≤ start
   pub same : (k : Kind) → from k s at ≡ from k s start
   pub closed : start < length s → Closed s start e
+
+-- no frame begins from a place on
+abbrev pub NoneFrom : List ℕ → ℕ → Type 0
+NoneFrom s at = (k : Kind) → from k s at ≡ []
+
+-- the first stretch from a place on at which a frame may begin, and which is closed
+pub record StretchFrom (s : List ℕ) (at start e : ℕ) : Type 0 where
+  pub reached : Reached s at start e
+  pub closed : Closed s start e
 
 -- an index with the pair of place n, where there is room for it
 unfoldable pub put : List ℕ → ℕ → ℕ → ℕ → List ℕ

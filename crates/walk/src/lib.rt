@@ -1,99 +1,50 @@
 // Lists the frames of a stream in an index.
 #![tactic(auto)]
 
-ghost use Rattle.std.specs.Prelude.{◌≡◌, ◌+◌, ◌*◌, ◌-◌, ◌/◌, ◌%◌, ◌<◌, ◌≤◌, length, take, drop, get_or};
+ghost use Rattle.std.specs.Prelude.{◌≡◌, ◌+◌, ◌*◌, ◌-◌, ◌/◌, ◌%◌, ◌<◌, ◌≤◌, length, take, drop, get_or, MatchOption};
 ghost use Rattle.util.specs.Limits.{most_stream};
 ghost use Rattle.messages.specs.Walk.{frames, is_frame};
-ghost use Rattle.walk.specs.Steps.{run, is_low, not_f0, Closed, Reached, put, put_all};
-ghost use Rattle.walk.specs.Answer.{WalkMet};
+ghost use Rattle.std.specs.List.{prefix_len};
+ghost use Rattle.walk.specs.Steps.{is_low, not_f0, Closed, Reached, NoneFrom, StretchFrom, put, put_all};
+ghost use Rattle.walk.specs.Answer.{refusal_of, WalkMet};
 
 use messages::file_reference::Kind;
 use util::limits::{LARGEST_U7, MOST_STREAM};
 use util::refusal::Refusal;
 
-// What the walk answers: the number of frames, or a refusal and the value besides its number.
-#[derive(Clone, Copy)]
-pub enum Walked {
-    Frames(usize),
-    Refused(Refusal, usize),
+// Why a walk lists nothing: the stream is too long, or the index has fewer pairs than the stream has frames, which are counted.
+#[derive(Clone, Copy, Debug, PartialEq, Eq)]
+pub enum WalkError {
+    Stream,
+    Index(usize),
 }
 
-// The first place from `from` on whose byte is not below 128, or the end: the last bytes, one a turn.
-fn last_high(s: &[u8], from: usize) -> usize
-    requires { from ≤ length s.now }
-    ensures { result ≡ from + run is_low (drop from s.now) }
-{
-    let mut i = from;
-    while i < s.len() {
-        if LARGEST_U7 < s[i] {
-            return i;
+impl From<WalkError> for Refusal {
+    ghost from_gives = { λ e r. r ≡ refusal_of e };
+
+    // The refusal that a walk ends with.
+    fn from(e: WalkError) -> Refusal {
+        match e {
+            WalkError::Stream => Refusal::Stream,
+            WalkError::Index(_) => Refusal::Index,
         }
-        i += 1;
     }
-    i
 }
 
-// The same, four bytes a turn.
-fn high_from(s: &[u8], from: usize) -> usize
-    requires { from ≤ length s.now }
-    ensures { result ≡ from + run is_low (drop from s.now) }
+// How many bytes of a slice stand before its first F0.
+fn before_f0(s: &[u8]) -> usize
+    ensures counted { result ≡ prefix_len not_f0 s.now }
+    ensures within { result ≤ length s.now }
 {
-    let mut i = from;
-    while i + 4 <= s.len() {
-        if LARGEST_U7 < s[i] {
-            return i;
-        }
-        if LARGEST_U7 < s[i + 1] {
-            return i + 1;
-        }
-        if LARGEST_U7 < s[i + 2] {
-            return i + 2;
-        }
-        if LARGEST_U7 < s[i + 3] {
-            return i + 3;
-        }
-        i += 4;
-    }
-    last_high(s, i)
+    s.iter().take_while(|b| **b != 0xF0).count()
 }
 
-// The first place from `from` on whose byte is F0, or the end: the last bytes, one a turn.
-fn last_f0(s: &[u8], from: usize) -> usize
-    requires { from ≤ length s.now }
-    ensures { result ≡ from + run not_f0 (drop from s.now) }
+// How many bytes of a slice stand before its first byte that is not below 128.
+fn before_high(s: &[u8]) -> usize
+    ensures counted { result ≡ prefix_len is_low s.now }
+    ensures within { result ≤ length s.now }
 {
-    let mut i = from;
-    while i < s.len() {
-        if s[i] == 0xF0 {
-            return i;
-        }
-        i += 1;
-    }
-    i
-}
-
-// The same, four bytes a turn.
-fn f0_from(s: &[u8], from: usize) -> usize
-    requires { from ≤ length s.now }
-    ensures { result ≡ from + run not_f0 (drop from s.now) }
-{
-    let mut i = from;
-    while i + 4 <= s.len() {
-        if s[i] == 0xF0 {
-            return i;
-        }
-        if s[i + 1] == 0xF0 {
-            return i + 1;
-        }
-        if s[i + 2] == 0xF0 {
-            return i + 2;
-        }
-        if s[i + 3] == 0xF0 {
-            return i + 3;
-        }
-        i += 4;
-    }
-    last_f0(s, i)
+    s.iter().take_while(|b| **b <= LARGEST_U7).count()
 }
 
 // Puts a pair at place n of an index that has room for it.
@@ -108,20 +59,20 @@ fn put_pair(index: &mut [u32], n: usize, offset: u32, len: u32)
     }
 }
 
-// `f0_from` of a stream behind a second reference: a reading that holds no slice passes to the other by a jump.
+// The first F0 from a place on of a stream behind a second reference, or the end: a reading that holds no slice passes to the other by a jump.
 fn next_f0(stream: &&[u8], from: usize) -> usize
     requires { from ≤ length stream.now.now }
-    ensures { result ≡ from + run not_f0 (drop from stream.now.now) }
+    ensures { result ≡ from + prefix_len not_f0 (drop from stream.now.now) }
 {
-    f0_from(*stream, from)
+    from + before_f0(&stream[from..])
 }
 
-// `high_from` of a stream behind a second reference.
+// The first byte from a place on of a stream behind a second reference that is not below 128, or the end.
 fn next_high(stream: &&[u8], from: usize) -> usize
     requires { from ≤ length stream.now.now }
-    ensures { result ≡ from + run is_low (drop from stream.now.now) }
+    ensures { result ≡ from + prefix_len is_low (drop from stream.now.now) }
 {
-    high_from(*stream, from)
+    from + before_high(&stream[from..])
 }
 
 // The byte of a stream behind a second reference at a place.
@@ -134,6 +85,7 @@ fn byte_at(stream: &&[u8], i: usize) -> u8
 }
 
 // Outside a stretch: the first one from F0 to F7, of three bytes or more, from `at` on: 65,536 times its start, and its end. None: the end of the stream as its start.
+// Kept as one number: a pair is handed over in memory, and a call between the two readings is then no jump, which a stack of 64 KB needs (docs/SPEED.md).
 #[cycle(read_inside_read_outside)]
 fn read_outside(stream: &&[u8], at: usize) -> usize
     requires { (at ≤ length stream.now.now) × (length stream.now.now ≤ most_stream) }
@@ -195,6 +147,20 @@ fn frame_at(s: &[u8], kind: Kind, start: usize, e: usize) -> bool
     reader::is_frame_shaped(&s[start..e + 1], kind)
 }
 
+// The first stretch from F0 to F7, of three bytes or more, from `at` on: the places of both. None: the stream ends first.
+fn stretch_from(stream: &[u8], at: usize) -> Option<(usize, usize)>
+    requires { (at ≤ length stream.now) × (length stream.now ≤ most_stream) }
+    ensures { MatchOption result (NoneFrom stream.now at) (λ t. StretchFrom stream.now at t.0 t.1) }
+{
+    let p = read_outside(&stream, at);
+    let start = p / 65536;
+    if start < stream.len() {
+        Some((start, p % 65536))
+    } else {
+        None
+    }
+}
+
 // Puts the pairs of the frames, as far as the index has room, and counts the frames.
 fn list(stream: &[u8], kind: Kind, index: &mut [u32]) -> usize
     requires { length stream.now ≤ most_stream }
@@ -203,34 +169,32 @@ fn list(stream: &[u8], kind: Kind, index: &mut [u32]) -> usize
     ensures listed { index.new ≡ put_all index.old 0 (frames kind stream.now) }
 {
     let mut n: usize = 0;
-    let mut p = read_outside(&stream, 0);
-    while p / 65536 < stream.len() {
-        let start = p / 65536;
-        let e = p % 65536;
+    let mut at = 0;
+    while let Some((start, e)) = stretch_from(stream, at) {
         if frame_at(stream, kind, start, e) {
             put_pair(index, n, start as u32, (e + 1 - start) as u32);
             n += 1;
         }
-        p = read_outside(&stream, e + 1);
+        at = e + 1;
     }
     n
 }
 
 // Lists the frames of a stream for a kind of sound file; counts them first where the index may have too few pairs.
-pub fn walk(stream: &[u8], kind: Kind, index: &mut [u32]) -> Walked
+pub fn walk(stream: &[u8], kind: Kind, index: &mut [u32]) -> Result<usize, WalkError>
     ensures { WalkMet result kind stream.now index.old index.new }
 {
     if MOST_STREAM < stream.len() {
-        return Walked::Refused(Refusal::Stream, 0);
+        return Err(WalkError::Stream);
     }
     let room = index.len() / 2;
     if stream.len() / 6 <= room {
-        return Walked::Frames(list(stream, kind, index));
+        return Ok(list(stream, kind, index));
     }
     let n = list(stream, kind, &mut index[..0]);
     if room < n {
-        return Walked::Refused(Refusal::Index, n);
+        return Err(WalkError::Index(n));
     }
     list(stream, kind, index);
-    Walked::Frames(n)
+    Ok(n)
 }

@@ -1,6 +1,7 @@
 -- The answers of the cycle of calls {read_inside, read_outside}. Assumes nothing.
 use Rattle.std.proofs.Common.{◌≡◌, sym, ◌∙◌, ℕ, ◌+◌, arith, drop}
-use Rattle.walk.specs.Steps.{run, is_low, not_f0}
+use Rattle.std.specs.List.{prefix_len}
+use Rattle.walk.specs.Steps.{is_low, not_f0}
 use Rattle.walk.proofs.Laws.Runs.{run_within, f0_at}
 use Rattle.walk.proofs.Laws.Reached.{outside, past, unheaded, high_end, high_on, cut, other, further, ended, found}
 use Rattle.walk.proofs.+read_inside_read_outside.Goals as goal
@@ -31,7 +32,7 @@ read_inside-returns-then-b-ne126 t c =
     further s i (i + 1 + 1) _ _ (omega arith) f c.read_outside.ensures
 
 -- where a stretch ends whose second byte is below 128
-stretch_ends : (t : ℕ) (c : read_inside-After-next_high-e t) → c.next_high-e.result ≡ (c.args.start + 1) + run is_low (drop (c.args.start + 1) c.args.stream.now.now)
+stretch_ends : (t : ℕ) (c : read_inside-After-next_high-e t) → c.next_high-e.result ≡ (c.args.start + 1) + prefix_len is_low (drop (c.args.start + 1) c.args.stream.now.now)
 stretch_ends t c =
     high_on c.args.stream.now.now (c.args.start + 1) c.byte_at-b.result c.next_high-e.result c.if-stream-next.false c.byte_at-b.ensures (omega (arith, c.if-b-ne126.false)) c.next_high-e.ensures
 

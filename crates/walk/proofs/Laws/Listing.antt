@@ -2,7 +2,7 @@
 use mathlib.Core.Path.{◌≡◌, refl, sym, ap, ◌∙◌}
 use mathlib.Core.Bool.{true, false}
 use mathlib.Core.List.{List, [], ◌∷◌}
-use Prim.Native.Nat.{ℕ, zero-le, ◌+◌, ◌*◌, ◌-◌, ◌/◌, ◌%◌, ◌≤◌, ◌<◌}
+use Prim.Native.Nat.{ℕ, zero-le, ◌+◌, ◌*◌, ◌-◌, ◌≤◌, ◌<◌}
 use native.Mathlib.Omega.{arith}
 use native.Mathlib.Nat.{zero-add, add-zero}
 use lib.ListN.{length, take, drop}
@@ -71,9 +71,3 @@ going_done k s ix₀ ix n at g f = (
   sym (g.all ∙ ap (λ (x : List Stretch). n + length x) f ∙ add-zero n),
   (omega (arith, g.few, g.within), sym (g.rest ∙ ap (put_all ix n) f)),
 )
-
--- what is reached from the place up to which all is put and counted
-pub record Next (k : Kind) (s ix₀ ix : List ℕ) (n p : ℕ) : Type 0 where
-  pub at : ℕ
-  pub going : Going k s ix₀ ix n at
-  pub reached : Reached s at (p / 65536) (p % 65536)

@@ -5,9 +5,9 @@ use mathlib.Core.List.{List, ◌++◌}
 use Prim.Native.Nat.{ℕ, ◌/◌, ◌≤◌}
 use native.Mathlib.Omega.{arith}
 use lib.ListN.{length}
-use Rattle.util.specs.declared.refusal.Refusal.TheVariants.{Index}
+use Rattle.walk.specs.declared.WalkError.TheVariants.{Index}
 use Rattle.messages.specs.Walk.{frames}
-use Rattle.walk.specs.declared.Walked.TheVariants.{Refused}
+use Rattle.std.specs.Prelude.{Err}
 use Rattle.walk.specs.Steps.{put_all}
 use Rattle.walk.specs.Answer.{WalkMet}
 use Rattle.walk.proofs.Laws.Answers.{met_long, met_many, met_enough, no_part}
@@ -28,7 +28,7 @@ returns-then-room-n c =
     let p = c.args in
     let call = c.list-n in
     let e : call.new.index ++ p.index.now ≡ p.index.now = no_part call.new.index p.index.now call.auto.index in
-    subst (WalkMet (Refused Index call.result) p.kind p.stream.now p.index.now) (sym e)
+    subst (WalkMet (Err (Index call.result)) p.kind p.stream.now p.index.now) (sym e)
     (met_many p.kind p.stream.now p.index.now c.if-stream-gt-MOST_STREAM.false call.result call.ensures.counted c.if-room-n.true)
 
 pub returns : goal.returns
