@@ -5,16 +5,17 @@ use mathlib.Core.List.{List, [], ◌∷◌, ◌++◌}
 use Prim.Native.Nat.{ℕ}
 use Rattle.numbers_to_message.specs.declared.fit.NumberType.{NumberType}
 use Rattle.numbers_to_message.specs.declared.fit.NumberType.TheVariants.{U16, ReferenceType}
-use Rattle.numbers_to_message.specs.declared.Made.{Made}
-use Rattle.numbers_to_message.specs.declared.Made.TheVariants.{Message}
-use Rattle.numbers_to_message.specs.Types.{DeviceID, ManufacturerID, TuningBank, SelectMap, FileReferenceType, UniversalNonRealTimeMsg}
+use Rattle.std.specs.Prelude.{Option, Some, None}
+use lib.IntN.{ℤ, pos}
+use lib.ListN.{length, get_or}
+use native.Mathlib.Omega.{arith}
+use Rattle.numbers_to_message.specs.Types.{Made, DeviceID, ManufacturerID, SelectMap, FileReferenceType, UniversalNonRealTimeMsg}
 use Rattle.numbers_to_message.specs.Rows.{Fun, Row}
 use Rattle.numbers_to_message.specs.Rows as row
 use Rattle.numbers_to_message.specs.Table.{read, or_other, read_first, message_of_numbers}
 use Rattle.messages.specs.declared.sample_dump.SampleDumpMsg.TheVariants as sample
 use Rattle.messages.specs.declared.sample_dump.ExtendedSampleDumpMsg.TheVariants as extended
 use Rattle.messages.specs.declared.file_dump.FileDumpMsg.TheVariants as file
-use Rattle.messages.specs.declared.tuning.TuningBank.TheVariants.{NoBank, Bank}
 use Rattle.messages.specs.declared.general_midi.GeneralMidi.TheVariants.{GM1, Off, GM2}
 use Rattle.messages.specs.declared.file_reference.SelectMap.TheVariants as select
 use Rattle.messages.specs.declared.file_reference.FileReferenceMsg.TheVariants as reference
@@ -27,11 +28,33 @@ use Rattle.numbers_of_message.proofs.ValuesBack.{value_back}
 use Rattle.numbers_of_message.proofs.RepresentableOnly.{representable_only}
 use Rattle.numbers_of_message.proofs.RowsBack.{types, after, row_back, row_after, coded_back, one_back}
 
+-- ---- twelve values, each by its place, are the list
+
+abbrev places : List ℤ → List ℤ
+places s =
+    get_or s 0 (pos 0) ∷ get_or s 1 (pos 0) ∷ get_or s 2 (pos 0) ∷ get_or s 3 (pos 0) ∷ get_or s 4 (pos 0) ∷ get_or s 5 (pos 0) ∷ get_or s 6 (pos 0) ∷ get_or s 7 (pos 0) ∷ get_or s 8 (pos 0) ∷ get_or s 9 (pos 0) ∷ get_or s 10 (pos 0) ∷ get_or s 11 (pos 0) ∷ []
+
+by_place : (s : List ℤ) → length s ≡ 12 → places s ≡ s
+by_place [] q = absurd (omega arith)
+by_place (a ∷ []) q = absurd (omega arith)
+by_place (a ∷ b ∷ []) q = absurd (omega arith)
+by_place (a ∷ b ∷ c ∷ []) q = absurd (omega arith)
+by_place (a ∷ b ∷ c ∷ e ∷ []) q = absurd (omega arith)
+by_place (a ∷ b ∷ c ∷ e ∷ f ∷ []) q = absurd (omega arith)
+by_place (a ∷ b ∷ c ∷ e ∷ f ∷ g ∷ []) q = absurd (omega arith)
+by_place (a ∷ b ∷ c ∷ e ∷ f ∷ g ∷ h ∷ []) q = absurd (omega arith)
+by_place (a ∷ b ∷ c ∷ e ∷ f ∷ g ∷ h ∷ i ∷ []) q = absurd (omega arith)
+by_place (a ∷ b ∷ c ∷ e ∷ f ∷ g ∷ h ∷ i ∷ j ∷ []) q = absurd (omega arith)
+by_place (a ∷ b ∷ c ∷ e ∷ f ∷ g ∷ h ∷ i ∷ j ∷ k ∷ []) q = absurd (omega arith)
+by_place (a ∷ b ∷ c ∷ e ∷ f ∷ g ∷ h ∷ i ∷ j ∷ k ∷ m ∷ []) q = absurd (omega arith)
+by_place (a ∷ b ∷ c ∷ e ∷ f ∷ g ∷ h ∷ i ∷ j ∷ k ∷ m ∷ n ∷ []) q = refl
+by_place (a ∷ b ∷ c ∷ e ∷ f ∷ g ∷ h ∷ i ∷ j ∷ k ∷ m ∷ n ∷ o ∷ l) q = absurd (omega arith)
+
 -- ---- messages with a part that has forms
 
 module _ (d : DeviceID) where
   abbrev Back : UniversalNonRealTimeMsg → Type 0
-  Back m = MessageRepresentable d m → message_of_numbers (numbers_of d m) ≡ Message d m
+  Back m = MessageRepresentable d m → message_of_numbers (numbers_of d m) ≡ Some (d, m)
 
   reply_back : (id : ManufacturerID) (f k a b c e : ℕ) → Back (row.reply id f k a b c e)
   reply_back (OneByte n) f k a b c e h =
@@ -43,13 +66,13 @@ module _ (d : DeviceID) where
       let m = row.reply (Extended n o) f k a b c e in
       coded_back d m h.0 ∙ row_back (coded m).1 (row.two_byte_reply).make d h.1
 
-  request_back : (b : TuningBank) (p : ℕ) → Back (msg.TuningBulkDumpRequest b p)
-  request_back NoBank p h = one_back d _ (row.bulk_request).make h refl refl
-  request_back (Bank b) p h = one_back d _ (row.bank_bulk_request).make h refl refl
+  request_back : (b : Option ℕ) (p : ℕ) → Back (msg.TuningBulkDumpRequest b p)
+  request_back None p h = one_back d _ (row.bulk_request).make h refl refl
+  request_back (Some b) p h = one_back d _ (row.bank_bulk_request).make h refl refl
 
-  keys_back : (b : TuningBank) (p : ℕ) → Back (msg.KeyBasedTuningDump (record { tuning_bank_num = b; tuning_program_num = p }))
-  keys_back NoBank p h = one_back d _ (row.keys).make h refl refl
-  keys_back (Bank b) p h = one_back d _ (row.bank_keys).make h refl refl
+  keys_back : (b : Option ℕ) (p : ℕ) → Back (msg.KeyBasedTuningDump (record { tuning_bank_num = b; tuning_program_num = p }))
+  keys_back None p h = one_back d _ (row.keys).make h refl refl
+  keys_back (Some b) p h = one_back d _ (row.bank_keys).make h refl refl
 
   -- the rows of a map after representable fields, by their forms
   module _ (l : List Field) (f : SelectMap → UniversalNonRealTimeMsg) (representable : AllRepresentable l)
@@ -66,7 +89,7 @@ module _ (d : DeviceID) where
         or_other (read row.list_types (row.list_map f) d xs)
         (or_other (read row.offset_types (row.offset_map f) d xs) (or_other (read row.wav_types (row.plain_map f) d xs) (read row.both_types (row.both_map f) d xs)))
 
-    forms_back : (s : SelectMap) → AllRepresentable (of_select s) → forms (field_numbers (of_select s)) ≡ Message d (f s)
+    forms_back : (s : SelectMap) → AllRepresentable (of_select s) → forms (field_numbers (of_select s)) ≡ Some (d, f s)
     forms_back select.SoundFile h = refl
     forms_back (select.SoundFileBankOffset o b) h =
         let s = of_select (select.SoundFileBankOffset o b) in
@@ -82,7 +105,7 @@ module _ (d : DeviceID) where
         record { types = types l ++ row.list_types; make = m0 } ∷ record { types = types l ++ row.offset_types; make = m1 }
         ∷ record { types = types l ++ row.wav_types; make = m2 } ∷ record { types = types l ++ row.both_types; make = m3 } ∷ []
 
-    map_back : (s : SelectMap) → AllRepresentable (of_select s) → read_first form_rows d (field_numbers l ++ field_numbers (of_select s)) ≡ Message d (f s)
+    map_back : (s : SelectMap) → AllRepresentable (of_select s) → read_first form_rows d (field_numbers l ++ field_numbers (of_select s)) ≡ Some (d, f s)
     map_back s h =
         let xs = field_numbers (of_select s) in
         (λ j. or_other (form row.list_types m0 (row.list_map f) xs e0 j)
@@ -115,17 +138,17 @@ numbers_back d (msg.ExtendedSampleDump (extended.LoopPointTransmission n i t s e
 numbers_back d (msg.ExtendedSampleDump (extended.LoopPointsRequest n i)) h = one_back d _ (row.extended_points_request).make h refl refl
 numbers_back d msg.IdentityRequest h = one_back d _ (row.identity_request).make h refl refl
 numbers_back d (msg.IdentityReply r) h =
-    reply_back d r.id r.family r.family_member r.software_revision.first r.software_revision.second r.software_revision.third r.software_revision.fourth h
+    reply_back d r.id r.family r.family_member r.software_revision.0 r.software_revision.1 r.software_revision.2 r.software_revision.3 h
 numbers_back d (msg.FileDump (file.Header s t l)) h = one_back d _ (row.file_header).make h refl refl
 numbers_back d (msg.FileDump (file.Packet c)) h = one_back d _ (row.file_packet).make h refl refl
 numbers_back d (msg.FileDump (file.Request r t)) h = one_back d _ (row.file_request).make h refl refl
 numbers_back d (msg.TuningBulkDumpRequest b p) h = request_back d b p h
 numbers_back d (msg.KeyBasedTuningDump k) h = keys_back d k.tuning_bank_num k.tuning_program_num h
-numbers_back d (msg.ScaleTuningDump1Byte s) h = one_back d _ (row.scale_dump_1).make h refl refl
-numbers_back d (msg.ScaleTuningDump2Byte s) h = one_back d _ (row.scale_dump_2).make h refl refl
+numbers_back d (msg.ScaleTuningDump1Byte s) h = one_back d _ (row.scale_dump_1).make h refl (ap (λ (t : List ℤ). msg.ScaleTuningDump1Byte (record { tuning_bank_num = s.tuning_bank_num; tuning_program_num = s.tuning_program_num; tuning = t })) (by_place s.tuning h.2))
+numbers_back d (msg.ScaleTuningDump2Byte s) h = one_back d _ (row.scale_dump_2).make h refl (ap (λ (t : List ℤ). msg.ScaleTuningDump2Byte (record { tuning_bank_num = s.tuning_bank_num; tuning_program_num = s.tuning_program_num; tuning = t })) (by_place s.tuning h.2))
 numbers_back d (msg.TuningNoteChange c) h = one_back d _ (row.note_change).make h refl refl
-numbers_back d (msg.ScaleTuning1Byte s) h = one_back d _ (row.scale_tuning_1).make h refl refl
-numbers_back d (msg.ScaleTuning2Byte s) h = one_back d _ (row.scale_tuning_2).make h refl refl
+numbers_back d (msg.ScaleTuning1Byte s) h = one_back d _ (row.scale_tuning_1).make h refl (ap (λ (t : List ℤ). msg.ScaleTuning1Byte (record { channels = s.channels; tuning = t })) (by_place s.tuning h.2))
+numbers_back d (msg.ScaleTuning2Byte s) h = one_back d _ (row.scale_tuning_2).make h refl (ap (λ (t : List ℤ). msg.ScaleTuning2Byte (record { channels = s.channels; tuning = t })) (by_place s.tuning h.2))
 numbers_back d (msg.GeneralMidi GM1) h = one_back d _ (msg.GeneralMidi GM1) h refl refl
 numbers_back d (msg.GeneralMidi Off) h = one_back d _ (msg.GeneralMidi Off) h refl refl
 numbers_back d (msg.GeneralMidi GM2) h = one_back d _ (msg.GeneralMidi GM2) h refl refl

@@ -1,6 +1,6 @@
 -- A value is representable where its number says it.
 -- Assumes nothing.
-use mathlib.Core.Path.{◌≡◌, refl}
+use mathlib.Core.Path.{◌≡◌, refl, sym, ap}
 use mathlib.Core.Bool.{Bool, true, false}
 use mathlib.Core.List.{List, [], ◌∷◌}
 use mathlib.Core.Option.{Option, none, some}
@@ -16,7 +16,8 @@ use Rattle.numbers_to_message.specs.declared.fit.NumberType.TheVariants as type
 use Rattle.numbers_to_message.specs.Values.{Value, value, numbered, or_else, spelled, file_number_of, signed_number_of}
 use Rattle.messages.specs.Fields.{named_types}
 use Rattle.messages.specs.declared.system_exclusive.DeviceID.TheVariants.{Device, AllCall}
-use Rattle.messages.specs.declared.tuning.TuningBank.TheVariants.{NoBank, Bank}
+use Rattle.std.specs.Prelude.{Some, None}
+use lib.ListN.{length, get_or}
 use Rattle.messages.specs.declared.sample_dump.LoopNumber.TheVariants.{Loop, RequestAll, DeleteAll}
 use Rattle.messages.specs.declared.file_dump.FileType.{FileType}
 use Rattle.messages.specs.declared.file_dump.FileType.TheVariants.{MIDI, MIEX, ESEQ, TEXT, BIN, MAC, Custom}
@@ -62,9 +63,9 @@ numbered_all : {A : Type 0} (P : A → Type 0) (f : A → ℕ) (l : List A) (x :
 numbered_all P f [] x t p h = absurd (let q : ◌≡◌ {A = ℕ} 0 1 = cc in omega arith)
 numbered_all P f (a ∷ l) x t p h = numbered_first P a t (numbered f l x) (eqb x (f a)) p.0 (λ g. numbered_all P f l x t p.1 g) h
 
-module _ (a b c d : ℕ) where
+module _ (l : List ℕ) where
   abbrev NotCustom : FileType → Type 0
-  NotCustom t = t ≡ Custom a b c d → ⊥
+  NotCustom t = t ≡ Custom l → ⊥
 
   no_custom : All NotCustom named_types
   no_custom = (
@@ -84,20 +85,21 @@ module _ (a b c d : ℕ) where
     ),
   )
 
-  spelled_only : (x : ℕ) (o : Option FileType) → x ≡ file_number_of (Custom a b c d) → x < 2 ^ 32 → numbered file_number_of named_types x ≡ o
-      → or_else o (Custom (x / 2 ^ 24) (x / 2 ^ 16 % 256) (x / 2 ^ 8 % 256) (x % 256)) ≡ Custom a b c d → Representable type.FileType (Custom a b c d)
-  spelled_only x (some t) e l g h = absurd (numbered_all NotCustom file_number_of named_types x t no_custom g h)
-  spelled_only x none e l g h =
-      let ea : x / 2 ^ 24 ≡ a = cc in
-      let eb : x / 2 ^ 16 % 256 ≡ b = cc in
-      let ec : x / 2 ^ 8 % 256 ≡ c = cc in
-      let ed : x % 256 ≡ d = cc in
-      ((omega arith, omega arith, omega arith, omega arith), rw e at g)
+  spelled_only : (x : ℕ) (o : Option FileType) → x ≡ file_number_of (Custom l) → x < 2 ^ 32 → numbered file_number_of named_types x ≡ o
+      → or_else o (Custom (x / 2 ^ 24 ∷ x / 2 ^ 16 % 256 ∷ x / 2 ^ 8 % 256 ∷ x % 256 ∷ [])) ≡ Custom l → Representable type.FileType (Custom l)
+  spelled_only x (some t) e b g h = absurd (numbered_all NotCustom file_number_of named_types x t no_custom g h)
+  spelled_only x none e b g h =
+      let q : x / 2 ^ 24 ∷ x / 2 ^ 16 % 256 ∷ x / 2 ^ 8 % 256 ∷ x % 256 ∷ [] ≡ l = cc in
+      let q0 = ap (λ (m : List ℕ). get_or m 0 0) q in
+      let q1 = ap (λ (m : List ℕ). get_or m 1 0) q in
+      let q2 = ap (λ (m : List ℕ). get_or m 2 0) q in
+      let q3 = ap (λ (m : List ℕ). get_or m 3 0) q in
+      (sym (ap length q), (omega (arith, q0), omega (arith, q1), omega (arith, q2), omega (arith, q3)), rw e at g)
 
-  custom_only : (x : ℕ) (t : Bool) → x ≡ file_number_of (Custom a b c d) → ltb x (2 ^ 32) ≡ t → map_option spelled (pick t (some x) none) ≡ some (Custom a b c d)
-      → Representable type.FileType (Custom a b c d)
-  custom_only x true e l h = spelled_only x (numbered file_number_of named_types x) e (ltb-true x (2 ^ 32) l) refl (cc)
-  custom_only x false e l h = absurd (let q : ◌≡◌ {A = ℕ} 0 1 = cc in omega arith)
+  custom_only : (x : ℕ) (t : Bool) → x ≡ file_number_of (Custom l) → ltb x (2 ^ 32) ≡ t → map_option spelled (pick t (some x) none) ≡ some (Custom l)
+      → Representable type.FileType (Custom l)
+  custom_only x true e b h = spelled_only x (numbered file_number_of named_types x) e (ltb-true x (2 ^ 32) b) refl (cc)
+  custom_only x false e b h = absurd (let q : ◌≡◌ {A = ℕ} 0 1 = cc in omega arith)
 
 -- ---- each type
 
@@ -125,10 +127,10 @@ representable_only type.FileType ESEQ h = tt
 representable_only type.FileType TEXT h = tt
 representable_only type.FileType BIN h = tt
 representable_only type.FileType MAC h = tt
-representable_only type.FileType (Custom a b c d) h = custom_only a b c d (file_number_of (Custom a b c d)) (ltb (file_number_of (Custom a b c d)) (2 ^ 32)) refl refl h
+representable_only type.FileType (Custom l) h = custom_only l (file_number_of (Custom l)) (ltb (file_number_of (Custom l)) (2 ^ 32)) refl refl h
 representable_only type.ReferenceType t h = tt
-representable_only type.BankOrNone (Bank n) h = apart_only (2 ^ 8) n NoBank Bank (eqb n 256) (ltb n (2 ^ 8)) refl (λ e. let q : ◌≡◌ {A = ℕ} 0 1 = cc in omega arith) h
-representable_only type.BankOrNone NoBank h = tt
+representable_only type.BankOrNone (Some n) h = apart_only (2 ^ 8) n None Some (eqb n 256) (ltb n (2 ^ 8)) refl (λ e. let q : ◌≡◌ {A = ℕ} 0 1 = cc in omega arith) h
+representable_only type.BankOrNone None h = tt
 representable_only type.Zero u h = tt
 representable_only type.One u h = tt
 representable_only type.Two u h = tt

@@ -11,7 +11,7 @@ use borrow.Author.Tests.{le-ltb}
 use Rattle.util.specs.Pick.{pick}
 use Rattle.numbers_to_message.specs.declared.fit.NumberType.{NumberType}
 use Rattle.numbers_to_message.specs.declared.fit.NumberType.TheVariants as type
-use Rattle.numbers_to_message.specs.declared.Made.TheVariants.{Message, Malformed}
+use Rattle.std.specs.Prelude.{Some, None}
 use Rattle.numbers_to_message.specs.Types.{DeviceID, UniversalNonRealTimeMsg}
 use Rattle.numbers_to_message.specs.Values.{Value, value, device_number_of}
 use Rattle.numbers_to_message.specs.Rows.{Fun, Row}
@@ -30,7 +30,7 @@ made [] m = m
 made (f ∷ l) m = made l (m f.1)
 
 pub row_back : (l : List Field) (m : Fun (types l) UniversalNonRealTimeMsg) (d : DeviceID) → AllRepresentable l
-    → read (types l) m d (field_numbers l) ≡ Message d (made l m)
+    → read (types l) m d (field_numbers l) ≡ Some (d, made l m)
 row_back [] m d h = refl
 row_back (f ∷ l) m d h =
     ap (λ (o : Option (Value f.0)). given o (λ a. read (types l) (m a) d (field_numbers l))) (value_back f.0 f.1 h.0)
@@ -55,15 +55,15 @@ pub coded_back : (d : DeviceID) (m : UniversalNonRealTimeMsg) → Representable 
 unfolding message_of_numbers numbers_of
 coded_back d m h =
     let l = field_numbers (coded m).1 in
-    ap (λ (b : Bool). pick b Malformed (given (value type.Device (device_number_of d)) (λ e. read_first (rows_of (coded m).0) e l))) (le-ltb (suc (suc (length l))) 2 (omega arith))
+    ap (λ (b : Bool). pick b None (given (value type.Device (device_number_of d)) (λ e. read_first (rows_of (coded m).0) e l))) (le-ltb (suc (suc (length l))) 2 (omega arith))
     ∙ ap (λ (o : Option DeviceID). given o (λ e. read_first (rows_of (coded m).0) e l)) (value_back type.Device d h)
 
 -- the message of the only row of its head code
 pub one_back : (d : DeviceID) (m : UniversalNonRealTimeMsg) (f : Fun (types (coded m).1) UniversalNonRealTimeMsg) → MessageRepresentable d m
     → rows_of (coded m).0 ≡ record { types = types (coded m).1; make = f } ∷ [] → made (coded m).1 f ≡ m
-    → message_of_numbers (numbers_of d m) ≡ Message d m
+    → message_of_numbers (numbers_of d m) ≡ Some (d, m)
 one_back d m f h r e =
     coded_back d m h.0
     ∙ ap (λ (s : List Row). read_first s d (field_numbers (coded m).1)) r
     ∙ row_back (coded m).1 f d h.1
-    ∙ ap (Message d) e
+    ∙ ap (λ (n : UniversalNonRealTimeMsg). Some (d, n)) e

@@ -1,10 +1,10 @@
 -- The fields of a settled message are representable, so its numbers say it. Assumes nothing.
-use mathlib.Core.Path.{◌≡◌, refl}
+use mathlib.Core.Path.{◌≡◌, refl, subst}
 use mathlib.Core.Logic.{⊎_elim}
 use mathlib.Core.Bool.{Bool, true, false}
 use mathlib.Core.Option.{Option, none}
 use mathlib.Core.List.{List, [], ◌∷◌}
-use Prim.Native.Nat.{ℕ, suc, ◌+◌, ◌-◌, ◌≤◌, ◌<◌, ◌^◌}
+use Prim.Native.Nat.{ℕ, zero, suc, ◌+◌, ◌-◌, ◌≤◌, ◌<◌, ◌^◌}
 use native.Mathlib.Omega.{arith}
 use lib.Dec.{leb}
 use lib.IntN.{ℤ, pos, negsuc}
@@ -16,7 +16,9 @@ use Rattle.messages.specs.declared.file_dump.FileType.TheVariants.{MIDI, MIEX, E
 use Rattle.messages.specs.declared.sample_dump.SampleDumpMsg.TheVariants as sample
 use Rattle.messages.specs.declared.sample_dump.ExtendedSampleDumpMsg.TheVariants as extended
 use Rattle.messages.specs.declared.file_dump.FileDumpMsg.TheVariants as file
-use Rattle.messages.specs.declared.tuning.TuningBank.TheVariants.{NoBank, Bank}
+use Rattle.std.specs.Prelude as std
+use Rattle.std.specs.Prelude.{Some, None}
+use lib.ListN.{length, get_or}
 use Rattle.messages.specs.declared.general_midi.GeneralMidi.TheVariants.{GM1, Off, GM2}
 use Rattle.messages.specs.declared.file_reference.FileReferenceType.TheVariants as kind
 use Rattle.messages.specs.declared.file_reference.SelectMap.TheVariants as select
@@ -24,7 +26,10 @@ use Rattle.messages.specs.declared.file_reference.FileReferenceMsg.TheVariants a
 use Rattle.messages.specs.declared.system_exclusive.ManufacturerID.TheVariants.{OneByte, Extended}
 use Rattle.messages.specs.declared.system_exclusive.UniversalNonRealTimeMsg.TheVariants as msg
 use Rattle.messages.specs.format.Texts.{lookup}
-use Rattle.messages.specs.Fields.{Four, s7, s14, device, loop_requested, loop_transmitted, file_type, bank_or_none, type_chars, same_four, custom_type, named_types}
+use Rattle.messages.specs.format.Core.{Part}
+use Rattle.messages.specs.format.Lists.{all_settled}
+use Rattle.util.specs.Pick.{pick}
+use Rattle.messages.specs.Fields.{Four, s7, s14, device, loop_requested, loop_transmitted, file_type, bank_or_none, type_chars, type_of, four, same_four, custom_type, named_types}
 use Rattle.messages.specs.Structures.{scale_1, scale_2, identity_reply, AfterMaker, reply, revision}
 use Rattle.messages.specs.Maps.{wav_map, offset, select_for}
 use Rattle.messages.specs.Layouts.{form}
@@ -32,11 +37,11 @@ use Rattle.messages.specs.MessageOf.{head_of, fields_of, message_of, head_sample
 use Rattle.messages.proofs.Exact.{settled_parts}
 use Rattle.messages.proofs.Walk.{bool_cases}
 use Rattle.numbers_to_message.specs.declared.fit.NumberType.TheVariants as type
-use Rattle.numbers_to_message.specs.Types.{DeviceID, TuningBank, LoopNumber, FileType, FileReferenceType, GeneralMidi, SampleDumpMsg, ExtendedSampleDumpMsg, ManufacturerID, FileDumpMsg, Scale1Byte, Scale2Byte, WAVMap, SelectMap, FileReferenceMsg, UniversalNonRealTimeMsg}
+use Rattle.numbers_to_message.specs.Types.{DeviceID, LoopNumber, FileType, FileReferenceType, GeneralMidi, SampleDumpMsg, ExtendedSampleDumpMsg, ManufacturerID, FileDumpMsg, WAVMap, SelectMap, FileReferenceMsg, UniversalNonRealTimeMsg}
 use Rattle.numbers_to_message.specs.Values.{file_number_of, numbered}
 use Rattle.numbers_of_message.specs.Numbers.{of_sample, of_extended, of_identity, of_file, banked, of_midi, of_select, of_reference, coded}
 use Rattle.numbers_of_message.specs.Numbers as numbers
-use Rattle.numbers_of_message.specs.Representable.{Within, Representable, AllRepresentable}
+use Rattle.numbers_of_message.specs.Representable.{Within, Representable, AllRepresentable, ScaleOfTwelve}
 use Rattle.numbers_of_message.specs.Promises.{SettledRepresentable}
 
 -- ---- the kinds of field
@@ -55,9 +60,9 @@ transmitted_representable (Loop n) h = omega arith
 transmitted_representable RequestAll h = let e : DeleteAll ≡ RequestAll = h.1 in let z : ◌≡◌ {A = ℕ} 0 1 = cc in omega arith
 transmitted_representable DeleteAll h = tt
 
-bank_representable : (b : TuningBank) → bank_or_none.settled b → Representable type.BankOrNone b
-bank_representable NoBank h = tt
-bank_representable (Bank n) h = omega arith
+bank_representable : (b : std.Option ℕ) → bank_or_none.settled b → Representable type.BankOrNone b
+bank_representable None h = tt
+bank_representable (Some n) h = omega arith
 
 neg_below : (o v : ℕ) (t : Bool) (m : ℕ) → 1 ≤ o → less o v t ≡ negsuc m → m < o
 neg_below o v true m h e = let z : ◌≡◌ {A = ℕ} 0 1 = cc in absurd (omega arith)
@@ -76,9 +81,37 @@ representable_14 z h = within 8192 (2 ^ 15) (128 ^ 2) z (omega arith) (omega ari
 
 -- ---- a file type: one that spells no named type has another number than each of these
 
+-- a custom type of the table has four letters
+abbrev FourLetters : FileType → Type 0
+FourLetters MIDI = Unit {0}
+FourLetters MIEX = Unit {0}
+FourLetters ESEQ = Unit {0}
+FourLetters TEXT = Unit {0}
+FourLetters BIN = Unit {0}
+FourLetters MAC = Unit {0}
+FourLetters (Custom l) = length l ≡ 4
+
+pick_four : (b : Bool) (t u : FileType) → FourLetters t → FourLetters u → FourLetters (pick b t u)
+pick_four true t u p q = p
+pick_four false t u p q = q
+
+abbrev Fours : List FileType → Type 0
+Fours [] = Unit {0}
+Fours (t ∷ ts) = FourLetters t × Fours ts
+
+looked_four : (x : Four) (ts : List FileType) → Fours ts → FourLetters (lookup same_four type_chars custom_type ts x)
+looked_four x [] h = refl
+looked_four x (t ∷ ts) h = pick_four (same_four (type_chars t) x) t (lookup same_four type_chars custom_type ts x) h.0 (looked_four x ts h.1)
+
+type_four : (x : Four) → FourLetters (type_of x)
+type_four x = looked_four x named_types (tt, (tt, (tt, (tt, (tt, (tt, tt))))))
+
 module _ (a b c d : ℕ) (low : (a < 128) × ((b < 128) × ((c < 128) × (d < 128)))) where
-  abbrev four : Four
-  four = (a, (b, (c, d)))
+  abbrev letters : Four
+  letters = (a, (b, (c, d)))
+
+  abbrev spelled_as : FileType
+  spelled_as = Custom (a ∷ b ∷ c ∷ d ∷ [])
 
   same_refl : (x : Four) → same_four x x ≡ true
   same_refl x = rw (eq-eqb x.0 _ refl, eq-eqb x.1.0 _ refl, eq-eqb x.1.1.0 _ refl, eq-eqb x.1.1.1 _ refl)
@@ -87,7 +120,7 @@ module _ (a b c d : ℕ) (low : (a < 128) × ((b < 128) × ((c < 128) × (d < 12
   abbrev Letters : FileType → Type 0
   Letters t = ((type_chars t).0 < 256) × (((type_chars t).1.0 < 256) × (((type_chars t).1.1.0 < 256) × ((type_chars t).1.1.1 < 256)))
 
-  same_number : (t : FileType) → Letters t → file_number_of (Custom a b c d) ≡ file_number_of t → same_four (type_chars t) four ≡ true
+  same_number : (t : FileType) → Letters t → file_number_of (spelled_as) ≡ file_number_of t → same_four (type_chars t) letters ≡ true
   same_number t l e =
       let p : a ≡ (type_chars t).0 = omega arith in
       let q : b ≡ (type_chars t).1.0 = omega arith in
@@ -96,29 +129,37 @@ module _ (a b c d : ℕ) (low : (a < 128) × ((b < 128) × ((c < 128) × (d < 12
       rw (p, q, r, s) (same_refl (type_chars t))
 
   abbrev spelled_in : List FileType → FileType
-  spelled_in ts = lookup same_four type_chars custom_type ts four
+  spelled_in ts = lookup same_four type_chars custom_type ts letters
 
   abbrev numbered_in : List FileType → Option FileType
-  numbered_in ts = numbered file_number_of ts (file_number_of (Custom a b c d))
+  numbered_in ts = numbered file_number_of ts (file_number_of (spelled_as))
 
   -- one name more that is not spelled
-  no_name : (t : FileType) (ts : List FileType) → Letters t → (t ≡ Custom a b c d → ⊥) → spelled_in (t ∷ ts) ≡ Custom a b c d
-      → (spelled_in ts ≡ Custom a b c d → numbered_in ts ≡ none) → numbered_in (t ∷ ts) ≡ none
+  no_name : (t : FileType) (ts : List FileType) → Letters t → (t ≡ spelled_as → ⊥) → spelled_in (t ∷ ts) ≡ spelled_as
+      → (spelled_in ts ≡ spelled_as → numbered_in ts ≡ none) → numbered_in (t ∷ ts) ≡ none
   no_name t ts l n e k =
       ⊎_elim
-      (λ (s : same_four (type_chars t) four ≡ true). absurd (n (rw s at e)))
-      (λ (s : same_four (type_chars t) four ≡ false).
+      (λ (s : same_four (type_chars t) letters ≡ true). absurd (n (rw s at e)))
+      (λ (s : same_four (type_chars t) letters ≡ false).
       rw (ne_eqb _ _ (λ q. let y = same_number t l q in let z : ◌≡◌ {A = ℕ} 0 1 = cc in omega arith)) (k (rw s at e)))
-      (bool_cases (same_four (type_chars t) four))
+      (bool_cases (same_four (type_chars t) letters))
 
-  unspelled : spelled_in named_types ≡ Custom a b c d → numbered_in named_types ≡ none
+  unspelled : spelled_in named_types ≡ spelled_as → numbered_in named_types ≡ none
   unspelled e =
-      no_name MIDI (MIEX ∷ ESEQ ∷ TEXT ∷ BIN ∷ MAC ∷ []) (omega arith) (λ (q : MIDI ≡ Custom a b c d). let z : ◌≡◌ {A = ℕ} 0 1 = cc in omega arith) e λ e₁.
-      no_name MIEX (ESEQ ∷ TEXT ∷ BIN ∷ MAC ∷ []) (omega arith) (λ (q : MIEX ≡ Custom a b c d). let z : ◌≡◌ {A = ℕ} 0 1 = cc in omega arith) e₁ λ e₂.
-      no_name ESEQ (TEXT ∷ BIN ∷ MAC ∷ []) (omega arith) (λ (q : ESEQ ≡ Custom a b c d). let z : ◌≡◌ {A = ℕ} 0 1 = cc in omega arith) e₂ λ e₃.
-      no_name TEXT (BIN ∷ MAC ∷ []) (omega arith) (λ (q : TEXT ≡ Custom a b c d). let z : ◌≡◌ {A = ℕ} 0 1 = cc in omega arith) e₃ λ e₄.
-      no_name BIN (MAC ∷ []) (omega arith) (λ (q : BIN ≡ Custom a b c d). let z : ◌≡◌ {A = ℕ} 0 1 = cc in omega arith) e₄ λ e₅.
-      no_name MAC ([]) (omega arith) (λ (q : MAC ≡ Custom a b c d). let z : ◌≡◌ {A = ℕ} 0 1 = cc in omega arith) e₅ λ e₆. refl
+      no_name MIDI (MIEX ∷ ESEQ ∷ TEXT ∷ BIN ∷ MAC ∷ []) (omega arith) (λ (q : MIDI ≡ spelled_as). let z : ◌≡◌ {A = ℕ} 0 1 = cc in omega arith) e λ e₁.
+      no_name MIEX (ESEQ ∷ TEXT ∷ BIN ∷ MAC ∷ []) (omega arith) (λ (q : MIEX ≡ spelled_as). let z : ◌≡◌ {A = ℕ} 0 1 = cc in omega arith) e₁ λ e₂.
+      no_name ESEQ (TEXT ∷ BIN ∷ MAC ∷ []) (omega arith) (λ (q : ESEQ ≡ spelled_as). let z : ◌≡◌ {A = ℕ} 0 1 = cc in omega arith) e₂ λ e₃.
+      no_name TEXT (BIN ∷ MAC ∷ []) (omega arith) (λ (q : TEXT ≡ spelled_as). let z : ◌≡◌ {A = ℕ} 0 1 = cc in omega arith) e₃ λ e₄.
+      no_name BIN (MAC ∷ []) (omega arith) (λ (q : BIN ≡ spelled_as). let z : ◌≡◌ {A = ℕ} 0 1 = cc in omega arith) e₄ λ e₅.
+      no_name MAC ([]) (omega arith) (λ (q : MAC ≡ spelled_as). let z : ◌≡◌ {A = ℕ} 0 1 = cc in omega arith) e₅ λ e₆. refl
+
+custom_representable : (l : List ℕ) → length l ≡ 4 → file_type.settled (Custom l) → Representable type.FileType (Custom l)
+custom_representable [] e h = absurd (omega arith)
+custom_representable (a ∷ []) e h = absurd (omega arith)
+custom_representable (a ∷ b ∷ []) e h = absurd (omega arith)
+custom_representable (a ∷ b ∷ c ∷ []) e h = absurd (omega arith)
+custom_representable (a ∷ b ∷ c ∷ d ∷ []) e h = (refl, omega arith, unspelled a b c d h.0 h.1)
+custom_representable (a ∷ b ∷ c ∷ d ∷ f ∷ l) e h = absurd (omega arith)
 
 file_representable : (t : FileType) → file_type.settled t → Representable type.FileType t
 file_representable MIDI h = tt
@@ -127,7 +168,7 @@ file_representable ESEQ h = tt
 file_representable TEXT h = tt
 file_representable BIN h = tt
 file_representable MAC h = tt
-file_representable (Custom a b c d) h = (omega arith, unspelled a b c d h.0 h.1)
+file_representable (Custom l) h = custom_representable l (subst FourLetters h.1 (type_four (four l))) h
 
 -- ---- messages
 
@@ -154,19 +195,29 @@ file_dump_representable (file.Header s t l) text h = (device_representable s h.0
 file_dump_representable (file.Packet c) text h = (omega arith, tt)
 file_dump_representable (file.Request r t) text h = (device_representable r h.0, (file_representable t h.1.0, tt))
 
-request_representable : (b : TuningBank) (p : ℕ) → (form (head_request b)).settled (fields_request b p) → AllRepresentable (banked 0x0800 0x0803 b p).1
-request_representable NoBank p h = (omega arith, tt)
-request_representable (Bank b) p h = (omega arith, (omega arith, tt))
+request_representable : (b : std.Option ℕ) (p : ℕ) → (form (head_request b)).settled (fields_request b p) → AllRepresentable (banked 0x0800 0x0803 b p).1
+request_representable None p h = (omega arith, tt)
+request_representable (Some b) p h = (omega arith, (omega arith, tt))
 
-keys_representable : (b : TuningBank) (p : ℕ) (text entries : List ℕ) → (form (head_keys b)).settled (fields_keys b p text entries) → AllRepresentable (banked 0x0801 0x0804 b p).1
-keys_representable NoBank p text entries h = (omega arith, tt)
-keys_representable (Bank b) p text entries h = (omega arith, (omega arith, tt))
+keys_representable : (b : std.Option ℕ) (p : ℕ) (text entries : List ℕ) → (form (head_keys b)).settled (fields_keys b p text entries) → AllRepresentable (banked 0x0801 0x0804 b p).1
+keys_representable None p text entries h = (omega arith, tt)
+keys_representable (Some b) p text entries h = (omega arith, (omega arith, tt))
 
-scale_1_representable : (s : Scale1Byte) → scale_1.settled s → AllRepresentable (numbers.scale_1 s)
-scale_1_representable s h = (representable_7 _ h.0.0, (representable_7 _ h.0.1.0, (representable_7 _ h.0.1.1.0, (representable_7 _ h.0.1.1.1.0, (representable_7 _ h.0.1.1.1.1.0, (representable_7 _ h.0.1.1.1.1.1.0, (representable_7 _ h.0.1.1.1.1.1.1.0, (representable_7 _ h.0.1.1.1.1.1.1.1.0, (representable_7 _ h.0.1.1.1.1.1.1.1.1.0, (representable_7 _ h.0.1.1.1.1.1.1.1.1.1.0, (representable_7 _ h.0.1.1.1.1.1.1.1.1.1.1.0, (representable_7 _ h.0.1.1.1.1.1.1.1.1.1.1.1, tt))))))))))))
+-- each of a settled list is settled
+all_at : (p : Part ℤ) (l : List ℤ) (k : ℕ) → all_settled p l → k < length l → p.settled (get_or l k (pos 0))
+all_at p [] k h g = absurd (omega arith)
+all_at p (x ∷ l) zero h g = h.0
+all_at p (x ∷ l) (suc k) h g = all_at p l k h.1 (omega arith)
 
-scale_2_representable : (s : Scale2Byte) → scale_2.settled s → AllRepresentable (numbers.scale_2 s)
-scale_2_representable s h = (representable_14 _ h.0.0, (representable_14 _ h.0.1.0, (representable_14 _ h.0.1.1.0, (representable_14 _ h.0.1.1.1.0, (representable_14 _ h.0.1.1.1.1.0, (representable_14 _ h.0.1.1.1.1.1.0, (representable_14 _ h.0.1.1.1.1.1.1.0, (representable_14 _ h.0.1.1.1.1.1.1.1.0, (representable_14 _ h.0.1.1.1.1.1.1.1.1.0, (representable_14 _ h.0.1.1.1.1.1.1.1.1.1.0, (representable_14 _ h.0.1.1.1.1.1.1.1.1.1.1.0, (representable_14 _ h.0.1.1.1.1.1.1.1.1.1.1.1, tt))))))))))))
+scale_1_representable : (s : List ℤ) → scale_1.settled s → AllRepresentable (numbers.scale_1 s)
+scale_1_representable s h =
+    let r = λ (k : ℕ) (l : k < 12). representable_7 (get_or s k (pos 0)) (all_at s7 s k h.1 (omega (arith, h.0))) in
+    (r 0 (omega arith), (r 1 (omega arith), (r 2 (omega arith), (r 3 (omega arith), (r 4 (omega arith), (r 5 (omega arith), (r 6 (omega arith), (r 7 (omega arith), (r 8 (omega arith), (r 9 (omega arith), (r 10 (omega arith), (r 11 (omega arith), tt))))))))))))
+
+scale_2_representable : (s : List ℤ) → scale_2.settled s → AllRepresentable (numbers.scale_2 s)
+scale_2_representable s h =
+    let r = λ (k : ℕ) (l : k < 12). representable_14 (get_or s k (pos 0)) (all_at s14 s k h.1 (omega (arith, h.0))) in
+    (r 0 (omega arith), (r 1 (omega arith), (r 2 (omega arith), (r 3 (omega arith), (r 4 (omega arith), (r 5 (omega arith), (r 6 (omega arith), (r 7 (omega arith), (r 8 (omega arith), (r 9 (omega arith), (r 10 (omega arith), (r 11 (omega arith), tt))))))))))))
 
 wav_representable : (m : WAVMap) → wav_map.settled m → AllRepresentable (numbers.wav m)
 wav_representable m h = (omega arith, (omega arith, (omega arith, (omega arith, (omega arith, (representable_14 m.fine h.0.1.1.1.1.1.0, (omega arith, tt)))))))
@@ -237,7 +288,29 @@ fields_representable msg.Cancel text entries h = tt
 fields_representable (msg.NAK n) text entries h = (omega arith, tt)
 fields_representable (msg.ACK n) text entries h = (omega arith, tt)
 
+-- the arrays of settled scales
+twelve : (m : UniversalNonRealTimeMsg) (text entries : List ℕ) → (form (head_of m)).settled (fields_of m text entries) → ScaleOfTwelve m
+twelve (msg.SampleDump m) text entries h = tt
+twelve (msg.ExtendedSampleDump m) text entries h = tt
+twelve msg.IdentityRequest text entries h = tt
+twelve (msg.IdentityReply r) text entries h = tt
+twelve (msg.FileDump m) text entries h = tt
+twelve (msg.TuningBulkDumpRequest b p) text entries h = tt
+twelve (msg.KeyBasedTuningDump k) text entries h = tt
+twelve (msg.ScaleTuningDump1Byte s) text entries h = h.0.1.1.1.0
+twelve (msg.ScaleTuningDump2Byte s) text entries h = h.0.1.1.1.0
+twelve (msg.TuningNoteChange c) text entries h = tt
+twelve (msg.ScaleTuning1Byte s) text entries h = h.0.1.0
+twelve (msg.ScaleTuning2Byte s) text entries h = h.0.1.0
+twelve (msg.GeneralMidi g) text entries h = tt
+twelve (msg.FileReference m) text entries h = tt
+twelve msg.EOF text entries h = tt
+twelve msg.Wait text entries h = tt
+twelve msg.Cancel text entries h = tt
+twelve (msg.NAK n) text entries h = tt
+twelve (msg.ACK n) text entries h = tt
+
 pub settled_representable : SettledRepresentable
 settled_representable d m text entries s =
     let p = settled_parts (message_of d m text entries) s in
-    (device_representable d p.0, fields_representable m text entries p.1)
+    (device_representable d p.0, fields_representable m text entries p.1, twelve m text entries p.1)

@@ -12,7 +12,8 @@ use Rattle.numbers_to_message.specs.declared.fit.NumberType.{NumberType}
 use Rattle.numbers_to_message.specs.declared.fit.NumberType.TheVariants as type
 use Rattle.numbers_to_message.specs.Values.{Value, value, signed, signed_number_of, file_number_of}
 use Rattle.messages.specs.declared.system_exclusive.DeviceID.TheVariants.{Device, AllCall}
-use Rattle.messages.specs.declared.tuning.TuningBank.TheVariants.{NoBank, Bank}
+use Rattle.std.specs.Prelude.{Some, None}
+use mathlib.Core.List.{List, [], ◌∷◌}
 use Rattle.messages.specs.declared.sample_dump.LoopNumber.TheVariants.{Loop, RequestAll, DeleteAll}
 use Rattle.messages.specs.declared.sample_dump.LoopType.TheVariants as loop
 use Rattle.messages.specs.declared.sample_dump.ExtendedLoopType.TheVariants as ext
@@ -28,18 +29,23 @@ signed_back n (negsuc k) r h =
     let e : 2 ^ 64 - 1 - x ≡ k = omega arith in
     rw (le-ltb x n (omega arith), le-ltb x (2 ^ 64 - n) (omega arith), e)
 
-custom_back : (a b c d : ℕ) → Representable type.FileType (Custom a b c d) → value type.FileType (file_number_of (Custom a b c d)) ≡ some (Custom a b c d)
-custom_back a b c d h =
+custom_back : (l : List ℕ) → Representable type.FileType (Custom l) → value type.FileType (file_number_of (Custom l)) ≡ some (Custom l)
+custom_back [] h = absurd (omega (arith, h.0))
+custom_back (a ∷ []) h = absurd (omega (arith, h.0))
+custom_back (a ∷ b ∷ []) h = absurd (omega (arith, h.0))
+custom_back (a ∷ b ∷ c ∷ []) h = absurd (omega (arith, h.0))
+custom_back (a ∷ b ∷ c ∷ d ∷ e ∷ l) h = absurd (omega (arith, h.0))
+custom_back (a ∷ b ∷ c ∷ d ∷ []) h =
     let x = ((a * 256 + b) * 256 + c) * 256 + d in
-    let ha = h.0.0 in
-    let hb = h.0.1 in
-    let hc = h.0.2 in
-    let hd = h.0.3 in
+    let ha = h.1.0 in
+    let hb = h.1.1 in
+    let hc = h.1.2 in
+    let hd = h.1.3 in
     let ea : x / 2 ^ 24 ≡ a = omega arith in
     let eb : x / 2 ^ 16 % 256 ≡ b = omega arith in
     let ec : x / 2 ^ 8 % 256 ≡ c = omega arith in
     let ed : x % 256 ≡ d = omega arith in
-    rw (lt-ltb x (2 ^ 32) (omega arith), h.1, ea, eb, ec, ed)
+    rw (lt-ltb x (2 ^ 32) (omega arith), h.2, ea, eb, ec, ed)
 
 pub value_back : (t : NumberType) (v : Value t) → Representable t v → value t (number t v) ≡ some v
 value_back type.U8 n h = rw (lt-ltb n (2 ^ 8) h)
@@ -77,12 +83,12 @@ value_back type.FileType ESEQ h = refl
 value_back type.FileType TEXT h = refl
 value_back type.FileType BIN h = refl
 value_back type.FileType MAC h = refl
-value_back type.FileType (Custom a b c d) h = custom_back a b c d h
+value_back type.FileType (Custom l) h = custom_back l h
 value_back type.ReferenceType reference.DLS h = refl
 value_back type.ReferenceType reference.SF2 h = refl
 value_back type.ReferenceType reference.WAV h = refl
-value_back type.BankOrNone (Bank n) h = rw (ne_eqb n 256 (λ e. omega arith), lt-ltb n (2 ^ 8) h)
-value_back type.BankOrNone NoBank h = refl
+value_back type.BankOrNone (Some n) h = rw (ne_eqb n 256 (λ e. omega arith), lt-ltb n (2 ^ 8) h)
+value_back type.BankOrNone None h = refl
 value_back type.Zero u h = refl
 value_back type.One u h = refl
 value_back type.Two u h = refl

@@ -1,15 +1,14 @@
 -- A message as numbers: head code, device, then the fields, each a value of its type.
-use Rattle.std.specs.Prelude.{List, [], ◌∷◌, ◌++◌, map, ℕ}
+use Rattle.std.specs.Prelude.{Option, Some, None, List, [], ◌∷◌, ◌++◌, map, ℕ, ℤ, pos, get_or}
 use Rattle.messages.specs.Fields.{bit}
 use Rattle.messages.specs.Structures.{loop_byte, extended_loop_byte}
 use Rattle.numbers_to_message.specs.declared.fit.NumberType.{NumberType}
-use Rattle.numbers_to_message.specs.Types.{DeviceID, TuningBank, SampleDumpMsg, ExtendedSampleDumpMsg, ManufacturerID, IdentityReply, FileDumpMsg, Scale1Byte, Scale2Byte, GeneralMidi, WAVMap, SelectMap, FileReferenceMsg, UniversalNonRealTimeMsg}
+use Rattle.numbers_to_message.specs.Types.{DeviceID, SampleDumpMsg, ExtendedSampleDumpMsg, ManufacturerID, IdentityReply, FileDumpMsg, GeneralMidi, WAVMap, SelectMap, FileReferenceMsg, UniversalNonRealTimeMsg}
 use Rattle.numbers_to_message.specs.Values.{Value, file_number_of, reference_number_of, signed_number_of, device_number_of, loop_index_of, bank_number_of}
 use Rattle.numbers_to_message.specs.declared.fit.NumberType.TheVariants.{U8, U16, U32, U64, I8, I16, Flag, Device, RequestedLoop, TransmittedLoop, LoopType, ExtendedLoopType, FileType, ReferenceType, BankOrNone, Zero, One, Two, Three}
 use Rattle.messages.specs.declared.sample_dump.SampleDumpMsg.TheVariants as sample
 use Rattle.messages.specs.declared.sample_dump.ExtendedSampleDumpMsg.TheVariants as extended
 use Rattle.messages.specs.declared.file_dump.FileDumpMsg.TheVariants as file
-use Rattle.messages.specs.declared.tuning.TuningBank.TheVariants.{NoBank, Bank}
 use Rattle.messages.specs.declared.general_midi.GeneralMidi.TheVariants.{GM1, Off, GM2}
 use Rattle.messages.specs.declared.file_reference.SelectMap.TheVariants as select
 use Rattle.messages.specs.declared.file_reference.FileReferenceMsg.TheVariants as reference
@@ -81,8 +80,8 @@ maker (Extended m n) = (One, tt) ∷ (U8, m) ∷ (U8, n) ∷ []
 -- "family, member, r1 to r4"
 abbrev pub after_maker : IdentityReply → List Field
 after_maker r =
-    (U16, r.family) ∷ (U16, r.family_member) ∷ (U8, r.software_revision.first) ∷ (U8, r.software_revision.second)
-    ∷ (U8, r.software_revision.third) ∷ (U8, r.software_revision.fourth) ∷ []
+    (U16, r.family) ∷ (U16, r.family_member) ∷ (U8, r.software_revision.0) ∷ (U8, r.software_revision.1)
+    ∷ (U8, r.software_revision.2) ∷ (U8, r.software_revision.3) ∷ []
 
 -- an identity reply
 abbrev pub of_identity : IdentityReply → Coded
@@ -95,21 +94,21 @@ of_file (file.Packet c) = (0x0702, (U8, c) ∷ [])
 of_file (file.Request r t) = (0x0703, (Device, r) ∷ (FileType, t) ∷ [])
 
 -- a program; with a bank another head code, and the bank before it
-abbrev pub banked : ℕ → ℕ → TuningBank → ℕ → Coded
-banked without with NoBank p = (without, (U8, p) ∷ [])
-banked without with (Bank b) p = (with, (U8, b) ∷ (U8, p) ∷ [])
+abbrev pub banked : ℕ → ℕ → Option ℕ → ℕ → Coded
+banked without with None p = (without, (U8, p) ∷ [])
+banked without with (Some b) p = (with, (U8, b) ∷ (U8, p) ∷ [])
 
 -- "twelve values" of one byte
-abbrev pub scale_1 : Scale1Byte → List Field
+abbrev pub scale_1 : List ℤ → List Field
 scale_1 s =
-    (I8, s.c) ∷ (I8, s.c_sharp) ∷ (I8, s.d) ∷ (I8, s.d_sharp) ∷ (I8, s.e) ∷ (I8, s.f)
-    ∷ (I8, s.f_sharp) ∷ (I8, s.g) ∷ (I8, s.g_sharp) ∷ (I8, s.a) ∷ (I8, s.a_sharp) ∷ (I8, s.b) ∷ []
+    (I8, get_or s 0 (pos 0)) ∷ (I8, get_or s 1 (pos 0)) ∷ (I8, get_or s 2 (pos 0)) ∷ (I8, get_or s 3 (pos 0)) ∷ (I8, get_or s 4 (pos 0)) ∷ (I8, get_or s 5 (pos 0))
+    ∷ (I8, get_or s 6 (pos 0)) ∷ (I8, get_or s 7 (pos 0)) ∷ (I8, get_or s 8 (pos 0)) ∷ (I8, get_or s 9 (pos 0)) ∷ (I8, get_or s 10 (pos 0)) ∷ (I8, get_or s 11 (pos 0)) ∷ []
 
 -- "twelve values" of two bytes
-abbrev pub scale_2 : Scale2Byte → List Field
+abbrev pub scale_2 : List ℤ → List Field
 scale_2 s =
-    (I16, s.c) ∷ (I16, s.c_sharp) ∷ (I16, s.d) ∷ (I16, s.d_sharp) ∷ (I16, s.e) ∷ (I16, s.f)
-    ∷ (I16, s.f_sharp) ∷ (I16, s.g) ∷ (I16, s.g_sharp) ∷ (I16, s.a) ∷ (I16, s.a_sharp) ∷ (I16, s.b) ∷ []
+    (I16, get_or s 0 (pos 0)) ∷ (I16, get_or s 1 (pos 0)) ∷ (I16, get_or s 2 (pos 0)) ∷ (I16, get_or s 3 (pos 0)) ∷ (I16, get_or s 4 (pos 0)) ∷ (I16, get_or s 5 (pos 0))
+    ∷ (I16, get_or s 6 (pos 0)) ∷ (I16, get_or s 7 (pos 0)) ∷ (I16, get_or s 8 (pos 0)) ∷ (I16, get_or s 9 (pos 0)) ∷ (I16, get_or s 10 (pos 0)) ∷ (I16, get_or s 11 (pos 0)) ∷ []
 
 -- General MIDI
 abbrev pub of_midi : GeneralMidi → Coded

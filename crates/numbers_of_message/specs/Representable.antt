@@ -1,5 +1,5 @@
 -- The messages whose numbers tell them from all others.
-use Rattle.std.specs.Prelude.{◌≡◌, List, [], ◌∷◌, ℕ, ◌<◌, ◌^◌, ℤ, pos, negsuc}
+use Rattle.std.specs.Prelude.{◌≡◌, Some, None, List, [], ◌∷◌, ℕ, ◌<◌, ◌^◌, ℤ, pos, negsuc, length, get_or}
 use Rattle.std.proofs.Math.Option.{none}
 use Rattle.messages.specs.Fields.{named_types}
 use Rattle.numbers_to_message.specs.declared.fit.NumberType.{NumberType}
@@ -7,8 +7,8 @@ use Rattle.numbers_to_message.specs.Types.{DeviceID, UniversalNonRealTimeMsg}
 use Rattle.numbers_to_message.specs.Values.{Value, file_number_of, numbered}
 use Rattle.numbers_to_message.specs.declared.fit.NumberType.TheVariants as type
 use Rattle.messages.specs.declared.system_exclusive.DeviceID.TheVariants.{Device, AllCall}
-use Rattle.messages.specs.declared.tuning.TuningBank.TheVariants.{NoBank, Bank}
 use Rattle.messages.specs.declared.sample_dump.LoopNumber.TheVariants.{Loop, RequestAll, DeleteAll}
+use Rattle.messages.specs.declared.system_exclusive.UniversalNonRealTimeMsg.TheVariants as msg
 use Rattle.messages.specs.declared.file_dump.FileType.TheVariants.{MIDI, MIEX, ESEQ, TEXT, BIN, MAC, Custom}
 use Rattle.numbers_of_message.specs.Numbers.{Field, coded}
 
@@ -36,7 +36,9 @@ Representable type.TransmittedLoop RequestAll = ⊥
 Representable type.TransmittedLoop DeleteAll = Unit {0}
 Representable type.LoopType t = Unit {0}
 Representable type.ExtendedLoopType t = Unit {0}
-Representable type.FileType (Custom a b c d) = ((a < 256) × (b < 256) × (c < 256) × (d < 256)) × (numbered file_number_of named_types (file_number_of (Custom a b c d)) ≡ none)
+Representable type.FileType (Custom l) =
+    (length l ≡ 4) × ((get_or l 0 0 < 256) × (get_or l 1 0 < 256) × (get_or l 2 0 < 256) × (get_or l 3 0 < 256))
+    × (numbered file_number_of named_types (file_number_of (Custom l)) ≡ none)
 Representable type.FileType MIDI = Unit {0}
 Representable type.FileType MIEX = Unit {0}
 Representable type.FileType ESEQ = Unit {0}
@@ -44,8 +46,8 @@ Representable type.FileType TEXT = Unit {0}
 Representable type.FileType BIN = Unit {0}
 Representable type.FileType MAC = Unit {0}
 Representable type.ReferenceType t = Unit {0}
-Representable type.BankOrNone (Bank n) = n < 2 ^ 8
-Representable type.BankOrNone NoBank = Unit {0}
+Representable type.BankOrNone (Some n) = n < 2 ^ 8
+Representable type.BankOrNone None = Unit {0}
 Representable type.Zero u = Unit {0}
 Representable type.One u = Unit {0}
 Representable type.Two u = Unit {0}
@@ -56,6 +58,28 @@ abbrev pub AllRepresentable : List Field → Type 0
 AllRepresentable [] = Unit {0}
 AllRepresentable (f ∷ l) = Representable f.0 f.1 × AllRepresentable l
 
+-- the length of the code's array of a scale, which the list of its values does not have by its type
+abbrev pub ScaleOfTwelve : UniversalNonRealTimeMsg → Type 0
+ScaleOfTwelve (msg.SampleDump m) = Unit {0}
+ScaleOfTwelve (msg.ExtendedSampleDump m) = Unit {0}
+ScaleOfTwelve msg.IdentityRequest = Unit {0}
+ScaleOfTwelve (msg.IdentityReply r) = Unit {0}
+ScaleOfTwelve (msg.FileDump m) = Unit {0}
+ScaleOfTwelve (msg.TuningBulkDumpRequest b p) = Unit {0}
+ScaleOfTwelve (msg.KeyBasedTuningDump k) = Unit {0}
+ScaleOfTwelve (msg.ScaleTuningDump1Byte s) = length s.tuning ≡ 12
+ScaleOfTwelve (msg.ScaleTuningDump2Byte s) = length s.tuning ≡ 12
+ScaleOfTwelve (msg.TuningNoteChange c) = Unit {0}
+ScaleOfTwelve (msg.ScaleTuning1Byte s) = length s.tuning ≡ 12
+ScaleOfTwelve (msg.ScaleTuning2Byte s) = length s.tuning ≡ 12
+ScaleOfTwelve (msg.GeneralMidi g) = Unit {0}
+ScaleOfTwelve (msg.FileReference m) = Unit {0}
+ScaleOfTwelve msg.EOF = Unit {0}
+ScaleOfTwelve msg.Wait = Unit {0}
+ScaleOfTwelve msg.Cancel = Unit {0}
+ScaleOfTwelve (msg.NAK n) = Unit {0}
+ScaleOfTwelve (msg.ACK n) = Unit {0}
+
 -- the device and each field of the message
 abbrev pub MessageRepresentable : DeviceID → UniversalNonRealTimeMsg → Type 0
-MessageRepresentable d m = Representable type.Device d × AllRepresentable (coded m).1
+MessageRepresentable d m = Representable type.Device d × AllRepresentable (coded m).1 × ScaleOfTwelve m

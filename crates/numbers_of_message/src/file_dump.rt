@@ -2,7 +2,7 @@
 ghost use Rattle.numbers_of_message.specs.Put.{Put};
 ghost use Rattle.numbers_of_message.specs.Numbers.{numbers, of_file};
 
-use crate::put::{put_1, put_2, put_3};
+use crate::put::put;
 use crate::values::{device_number, type_number};
 use messages::file_dump::FileDumpMsg;
 
@@ -18,16 +18,16 @@ pub fn put_message(out: &mut [u64], d: u64, m: FileDumpMsg) -> usize
         } => {
             let s = device_number(sender_device);
             let t = type_number(file_type);
-            put_3(out, 0x0701, d, s, t, length as u64)
+            put(out, &[0x0701, d, s, t, length as u64])
         }
-        FileDumpMsg::Packet { running_count } => put_1(out, 0x0702, d, running_count as u64),
+        FileDumpMsg::Packet { running_count } => put(out, &[0x0702, d, running_count as u64]),
         FileDumpMsg::Request {
             requester_device,
             file_type,
         } => {
             let s = device_number(requester_device);
             let t = type_number(file_type);
-            put_2(out, 0x0703, d, s, t)
+            put(out, &[0x0703, d, s, t])
         }
     }
 }

@@ -3,8 +3,8 @@ ghost use Rattle.std.specs.Prelude.{◌≡◌, ◌∷◌};
 ghost use Rattle.numbers_of_message.specs.Put.{Put};
 ghost use Rattle.numbers_of_message.specs.Numbers.{numbers, field_numbers, wav, of_select, of_reference};
 
-use crate::put::{put_1, put_2, put_both};
-use crate::values::{flag, reference_number, signed_16};
+use crate::put::{put, put_both};
+use crate::values::{reference_number, signed_16};
 use messages::file_reference::{FileReferenceMsg, FileReferenceType, SelectMap, WAVMap};
 
 // The ten numbers of a map with a WAV map.
@@ -37,7 +37,7 @@ fn select_map(m: SelectMap) -> [u64; 10]
             bank_offset,
             src_drum,
         } => {
-            let f = flag(src_drum);
+            let f = u64::from(src_drum);
             [1, bank_offset as u64, f, 0, 0, 0, 0, 0, 0, 0]
         }
         SelectMap::WAVBankOffset {
@@ -45,7 +45,7 @@ fn select_map(m: SelectMap) -> [u64; 10]
             bank_offset,
             src_drum,
         } => {
-            let f = flag(src_drum);
+            let f = u64::from(src_drum);
             wav_map(3, bank_offset as u64, f, map)
         }
     }
@@ -83,7 +83,7 @@ pub fn put_message(out: &mut [u64], d: u64, m: FileReferenceMsg) -> usize
     match m {
         FileReferenceMsg::Open { ctx, file_type } => {
             let t = reference_number(file_type);
-            put_2(out, 0x0B01, d, ctx as u64, t)
+            put(out, &[0x0B01, d, ctx as u64, t])
         }
         FileReferenceMsg::SelectContents { ctx, map } => put_select(out, d, ctx, map),
         FileReferenceMsg::OpenSelectContents {
@@ -91,6 +91,6 @@ pub fn put_message(out: &mut [u64], d: u64, m: FileReferenceMsg) -> usize
             file_type,
             map,
         } => put_open_select(out, d, ctx, file_type, map),
-        FileReferenceMsg::Close { ctx } => put_1(out, 0x0B04, d, ctx as u64),
+        FileReferenceMsg::Close { ctx } => put(out, &[0x0B04, d, ctx as u64]),
     }
 }

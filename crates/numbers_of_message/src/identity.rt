@@ -7,7 +7,7 @@ use crate::put::put;
 use messages::system_exclusive::{IdentityReply, ManufacturerID};
 
 // Puts a reply; form, m1 and m2 are the numbers of its maker.
-fn put_maker(out: &mut [u64], d: u64, form: u64, m1: u64, m2: u64, r: IdentityReply) -> usize
+fn put_maker(out: &mut [u64], d: u64, form: u64, m1: u8, m2: u8, r: IdentityReply) -> usize
     ensures { Put (0x0602 ∷ d ∷ form ∷ m1 ∷ m2 ∷ field_numbers (after_maker r)) out.old out.new result }
 {
     let v = r.software_revision;
@@ -15,14 +15,14 @@ fn put_maker(out: &mut [u64], d: u64, form: u64, m1: u64, m2: u64, r: IdentityRe
         0x0602,
         d,
         form,
-        m1,
-        m2,
+        m1 as u64,
+        m2 as u64,
         r.family as u64,
         r.family_member as u64,
-        v.first as u64,
-        v.second as u64,
-        v.third as u64,
-        v.fourth as u64,
+        v.0 as u64,
+        v.1 as u64,
+        v.2 as u64,
+        v.3 as u64,
     ];
     put(out, &row)
 }
@@ -31,9 +31,8 @@ fn put_maker(out: &mut [u64], d: u64, form: u64, m1: u64, m2: u64, r: IdentityRe
 pub fn put_reply(out: &mut [u64], d: u64, r: IdentityReply) -> usize
     ensures { Put (numbers d (of_identity r)) out.old out.new result }
 {
-    let id = r.id;
-    match id {
-        ManufacturerID::OneByte(m) => put_maker(out, d, 0, m as u64, 0, r),
-        ManufacturerID::Extended(m, n) => put_maker(out, d, 1, m as u64, n as u64, r),
+    match r.id {
+        ManufacturerID::OneByte(m) => put_maker(out, d, 0, m, 0, r),
+        ManufacturerID::Extended(m, n) => put_maker(out, d, 1, m, n, r),
     }
 }

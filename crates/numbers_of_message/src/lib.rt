@@ -8,7 +8,7 @@ ghost use Rattle.numbers_of_message.specs.Put.{Put};
 ghost use Rattle.numbers_of_message.specs.Numbers.{numbers, coded, numbers_of};
 
 use messages::system_exclusive::{DeviceID, UniversalNonRealTimeMsg};
-use put::{put_0, put_1};
+use put::put;
 
 pub mod extended_sample_dump;
 pub mod file_dump;
@@ -29,32 +29,38 @@ fn put_message(out: &mut [u64], d: u64, m: UniversalNonRealTimeMsg) -> usize
         UniversalNonRealTimeMsg::ExtendedSampleDump(s) => extended_sample_dump::put_message(
             out, d, s,
         ),
-        UniversalNonRealTimeMsg::IdentityRequest => put_0(out, 0x0601, d),
+        UniversalNonRealTimeMsg::IdentityRequest => put(out, &[0x0601, d]),
         UniversalNonRealTimeMsg::IdentityReply(r) => identity::put_reply(out, d, r),
         UniversalNonRealTimeMsg::FileDump(f) => file_dump::put_message(out, d, f),
         UniversalNonRealTimeMsg::TuningBulkDumpRequest {
             tuning_bank_num,
             tuning_program_num,
         } => tuning::put_banked(out, d, 0x0800, 0x0803, tuning_bank_num, tuning_program_num),
-        UniversalNonRealTimeMsg::KeyBasedTuningDump(k) => {
-            let bank = k.tuning_bank_num;
-            tuning::put_banked(out, d, 0x0801, 0x0804, bank, k.tuning_program_num)
-        }
+        UniversalNonRealTimeMsg::KeyBasedTuningDump(k) => tuning::put_banked(
+            out,
+            d,
+            0x0801,
+            0x0804,
+            k.tuning_bank_num,
+            k.tuning_program_num,
+        ),
         UniversalNonRealTimeMsg::ScaleTuningDump1Byte(s) => tuning::put_dump_1(out, d, s),
         UniversalNonRealTimeMsg::ScaleTuningDump2Byte(s) => tuning::put_dump_2(out, d, s),
-        UniversalNonRealTimeMsg::TuningNoteChange(c) => {
-            let bank = c.tuning_bank_num;
-            tuning::put_change(out, d, bank, c.tuning_program_num)
-        }
+        UniversalNonRealTimeMsg::TuningNoteChange(c) => tuning::put_change(
+            out,
+            d,
+            c.tuning_bank_num,
+            c.tuning_program_num,
+        ),
         UniversalNonRealTimeMsg::ScaleTuning1Byte(s) => tuning::put_tuning_1(out, d, s),
         UniversalNonRealTimeMsg::ScaleTuning2Byte(s) => tuning::put_tuning_2(out, d, s),
         UniversalNonRealTimeMsg::GeneralMidi(g) => general_midi::put_message(out, d, g),
         UniversalNonRealTimeMsg::FileReference(f) => file_reference::put_message(out, d, f),
-        UniversalNonRealTimeMsg::EOF => put_0(out, 0x7B00, d),
-        UniversalNonRealTimeMsg::Wait => put_0(out, 0x7C00, d),
-        UniversalNonRealTimeMsg::Cancel => put_0(out, 0x7D00, d),
-        UniversalNonRealTimeMsg::NAK(n) => put_1(out, 0x7E00, d, n as u64),
-        UniversalNonRealTimeMsg::ACK(n) => put_1(out, 0x7F00, d, n as u64),
+        UniversalNonRealTimeMsg::EOF => put(out, &[0x7B00, d]),
+        UniversalNonRealTimeMsg::Wait => put(out, &[0x7C00, d]),
+        UniversalNonRealTimeMsg::Cancel => put(out, &[0x7D00, d]),
+        UniversalNonRealTimeMsg::NAK(n) => put(out, &[0x7E00, d, n as u64]),
+        UniversalNonRealTimeMsg::ACK(n) => put(out, &[0x7F00, d, n as u64]),
     }
 }
 

@@ -5,11 +5,10 @@ ghost use Rattle.numbers_of_message.specs.Put.{Put};
 ghost use Rattle.numbers_of_message.specs.Numbers.{numbers, field_numbers, banked, scale_1, scale_2, coded};
 ghost use Rattle.messages.specs.declared.system_exclusive.UniversalNonRealTimeMsg.TheVariants as msg;
 
-use crate::put::{put_1, put_2, put_both};
+use crate::put::{put, put_both};
 use crate::values::{bank_number, signed_8, signed_16};
 use messages::tuning::{
-    Scale1Byte, Scale2Byte, ScaleTuning1Byte, ScaleTuning2Byte, ScaleTuningDump1Byte,
-    ScaleTuningDump2Byte, TuningBank,
+    ScaleTuning1Byte, ScaleTuning2Byte, ScaleTuningDump1Byte, ScaleTuningDump2Byte,
 };
 
 // Puts a program, and the bank before it where there is one.
@@ -18,62 +17,61 @@ pub fn put_banked(
     d: u64,
     without: u64,
     with: u64,
-    bank: TuningBank,
+    bank: Option<u8>,
     program: u8,
 ) -> usize
     ensures { Put (numbers d (banked without with bank program)) out.old out.new result }
 {
     match bank {
-        TuningBank::NoBank => put_1(out, without, d, program as u64),
-        TuningBank::Bank(b) => put_2(out, with, d, b as u64, program as u64),
+        None => put(out, &[without, d, program as u64]),
+        Some(b) => put(out, &[with, d, b as u64, program as u64]),
     }
 }
 
 // Puts a note change.
-pub fn put_change(out: &mut [u64], d: u64, bank: TuningBank, program: u8) -> usize
+pub fn put_change(out: &mut [u64], d: u64, bank: Option<u8>, program: u8) -> usize
     ensures { Put (0x0807 ∷ d ∷ bank_number_of bank ∷ program ∷ []) out.old out.new result }
 {
-    let b = bank_number(bank);
-    put_2(out, 0x0807, d, b, program as u64)
+    put(out, &[0x0807, d, bank_number(bank), program as u64])
 }
 
 // The twelve values of one byte.
-fn scale_1(s: Scale1Byte) -> [u64; 12]
+fn scale_1(s: [i8; 12]) -> [u64; 12]
     ensures { result ≡ field_numbers (scale_1 s) }
 {
     [
-        signed_8(s.c),
-        signed_8(s.c_sharp),
-        signed_8(s.d),
-        signed_8(s.d_sharp),
-        signed_8(s.e),
-        signed_8(s.f),
-        signed_8(s.f_sharp),
-        signed_8(s.g),
-        signed_8(s.g_sharp),
-        signed_8(s.a),
-        signed_8(s.a_sharp),
-        signed_8(s.b),
+        signed_8(s[0]),
+        signed_8(s[1]),
+        signed_8(s[2]),
+        signed_8(s[3]),
+        signed_8(s[4]),
+        signed_8(s[5]),
+        signed_8(s[6]),
+        signed_8(s[7]),
+        signed_8(s[8]),
+        signed_8(s[9]),
+        signed_8(s[10]),
+        signed_8(s[11]),
     ]
 }
 
 // The twelve values of two bytes.
-fn scale_2(s: Scale2Byte) -> [u64; 12]
+fn scale_2(s: [i16; 12]) -> [u64; 12]
     ensures { result ≡ field_numbers (scale_2 s) }
 {
     [
-        signed_16(s.c),
-        signed_16(s.c_sharp),
-        signed_16(s.d),
-        signed_16(s.d_sharp),
-        signed_16(s.e),
-        signed_16(s.f),
-        signed_16(s.f_sharp),
-        signed_16(s.g),
-        signed_16(s.g_sharp),
-        signed_16(s.a),
-        signed_16(s.a_sharp),
-        signed_16(s.b),
+        signed_16(s[0]),
+        signed_16(s[1]),
+        signed_16(s[2]),
+        signed_16(s[3]),
+        signed_16(s[4]),
+        signed_16(s[5]),
+        signed_16(s[6]),
+        signed_16(s[7]),
+        signed_16(s[8]),
+        signed_16(s[9]),
+        signed_16(s[10]),
+        signed_16(s[11]),
     ]
 }
 
@@ -81,14 +79,13 @@ fn scale_2(s: Scale2Byte) -> [u64; 12]
 pub fn put_dump_1(out: &mut [u64], d: u64, s: ScaleTuningDump1Byte) -> usize
     ensures { Put (numbers d (coded (msg.ScaleTuningDump1Byte s))) out.old out.new result }
 {
-    let scale = s.tuning;
     let head = [
         0x0805,
         d,
         s.tuning_bank_num as u64,
         s.tuning_program_num as u64,
     ];
-    let v = scale_1(scale);
+    let v = scale_1(s.tuning);
     put_both(out, &head, &v)
 }
 
@@ -96,14 +93,13 @@ pub fn put_dump_1(out: &mut [u64], d: u64, s: ScaleTuningDump1Byte) -> usize
 pub fn put_dump_2(out: &mut [u64], d: u64, s: ScaleTuningDump2Byte) -> usize
     ensures { Put (numbers d (coded (msg.ScaleTuningDump2Byte s))) out.old out.new result }
 {
-    let scale = s.tuning;
     let head = [
         0x0806,
         d,
         s.tuning_bank_num as u64,
         s.tuning_program_num as u64,
     ];
-    let v = scale_2(scale);
+    let v = scale_2(s.tuning);
     put_both(out, &head, &v)
 }
 
@@ -111,9 +107,8 @@ pub fn put_dump_2(out: &mut [u64], d: u64, s: ScaleTuningDump2Byte) -> usize
 pub fn put_tuning_1(out: &mut [u64], d: u64, s: ScaleTuning1Byte) -> usize
     ensures { Put (numbers d (coded (msg.ScaleTuning1Byte s))) out.old out.new result }
 {
-    let scale = s.tuning;
     let head = [0x0808, d, s.channels.channels as u64];
-    let v = scale_1(scale);
+    let v = scale_1(s.tuning);
     put_both(out, &head, &v)
 }
 
@@ -121,8 +116,7 @@ pub fn put_tuning_1(out: &mut [u64], d: u64, s: ScaleTuning1Byte) -> usize
 pub fn put_tuning_2(out: &mut [u64], d: u64, s: ScaleTuning2Byte) -> usize
     ensures { Put (numbers d (coded (msg.ScaleTuning2Byte s))) out.old out.new result }
 {
-    let scale = s.tuning;
     let head = [0x0809, d, s.channels.channels as u64];
-    let v = scale_2(scale);
+    let v = scale_2(s.tuning);
     put_both(out, &head, &v)
 }

@@ -7,7 +7,6 @@ use messages::file_dump::{FileType, type_letters};
 use messages::file_reference::FileReferenceType;
 use messages::sample_dump::LoopNumber;
 use messages::system_exclusive::DeviceID;
-use messages::tuning::TuningBank;
 
 // A device: all call is 256.
 pub fn device_number(d: DeviceID) -> u64
@@ -20,13 +19,10 @@ pub fn device_number(d: DeviceID) -> u64
 }
 
 // A bank: none is 256.
-pub fn bank_number(bank: TuningBank) -> u64
+pub fn bank_number(bank: Option<u8>) -> u64
     ensures { result ≡ bank_number_of bank }
 {
-    match bank {
-        TuningBank::NoBank => 256,
-        TuningBank::Bank(n) => n as u64,
-    }
+    bank.map_or(256, u64::from)
 }
 
 // A loop: all are 65,536.
@@ -45,7 +41,7 @@ pub fn type_number(t: FileType) -> u64
     ensures { result ≡ file_number_of t }
 {
     let l = type_letters(t);
-    ((l.first as u64 * 256 + l.second as u64) * 256 + l.third as u64) * 256 + l.fourth as u64
+    ((l[0] as u64 * 256 + l[1] as u64) * 256 + l[2] as u64) * 256 + l[3] as u64
 }
 
 // The type of a sound file.
@@ -57,13 +53,6 @@ pub fn reference_number(t: FileReferenceType) -> u64
         FileReferenceType::SF2 => 1,
         FileReferenceType::WAV => 2,
     }
-}
-
-// A flag.
-pub fn flag(b: bool) -> u64
-    ensures { result ≡ bit b }
-{
-    if b { 1 } else { 0 }
 }
 
 // A signed number of 8 bits in two's complement of 64.

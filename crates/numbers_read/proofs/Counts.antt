@@ -3,11 +3,11 @@ use mathlib.Core.List.{◌++◌}
 use Prim.Native.Nat.{ℕ, ◌≤◌}
 use native.Mathlib.Omega.{arith}
 use lib.ListN.{length}
-use Rattle.numbers_to_message.specs.Types.{DeviceID, TuningBank, SampleDumpMsg, ExtendedSampleDumpMsg, ManufacturerID, IdentityReply, FileDumpMsg, GeneralMidi, SelectMap, FileReferenceMsg, UniversalNonRealTimeMsg}
+use Rattle.numbers_to_message.specs.Types.{DeviceID, SampleDumpMsg, ExtendedSampleDumpMsg, ManufacturerID, IdentityReply, FileDumpMsg, GeneralMidi, SelectMap, FileReferenceMsg, UniversalNonRealTimeMsg}
 use Rattle.messages.specs.declared.sample_dump.SampleDumpMsg.TheVariants as sample
 use Rattle.messages.specs.declared.sample_dump.ExtendedSampleDumpMsg.TheVariants as extended
 use Rattle.messages.specs.declared.file_dump.FileDumpMsg.TheVariants as file
-use Rattle.messages.specs.declared.tuning.TuningBank.TheVariants.{NoBank, Bank}
+use Rattle.std.specs.Prelude.{Option, Some, None}
 use Rattle.messages.specs.declared.general_midi.GeneralMidi.TheVariants.{GM1, Off, GM2}
 use Rattle.messages.specs.declared.file_reference.SelectMap.TheVariants as select
 use Rattle.messages.specs.declared.file_reference.FileReferenceMsg.TheVariants as reference
@@ -42,9 +42,9 @@ few_file (file.Header s t l) = omega arith
 few_file (file.Packet c) = omega arith
 few_file (file.Request r t) = omega arith
 
-few_banked : (a b : ℕ) (k : TuningBank) (p : ℕ) → Few (banked a b k p)
-few_banked a b NoBank p = omega arith
-few_banked a b (Bank k) p = omega arith
+few_banked : (a b : ℕ) (k : Option ℕ) (p : ℕ) → Few (banked a b k p)
+few_banked a b None p = omega arith
+few_banked a b (Some k) p = omega arith
 
 few_midi : (g : GeneralMidi) → Few (of_midi g)
 few_midi GM1 = omega arith

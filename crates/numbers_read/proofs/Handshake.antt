@@ -16,7 +16,9 @@ use Rattle.messages.specs.MessageOf.{message_of}
 use Rattle.read_places.specs.Heads.{head_at}
 use Rattle.read_places.proofs.Laws.Numbers.{value_get}
 use Rattle.read_system_exclusive.proofs.Laws.{number_reads}
-use Rattle.reader.specs.declared.lent.Reading.TheVariants.{Frame}
+use Rattle.std.specs.Prelude.{Ok}
+use Rattle.reader.specs.declared.lent.Reading.{Reading}
+use Rattle.messages.specs.declared.system_exclusive.UniversalNonRealTimeMsg.{UniversalNonRealTimeMsg}
 use Rattle.reader.specs.Reading.{text_and_places_of, data_after, entries_after, ReadMet}
 use Rattle.reader.proofs.Laws.Opening.{opened_at, opening_at}
 use Rattle.reader.proofs.Laws.Shape.{inside_is, read_of_frame}
@@ -64,13 +66,17 @@ module _ (k : Kind) (d n : ℕ) (p : d < 128) (q : n < 128) where
       ap (plain_answer (device_of d) head.ACK) (sym (number_reads (n ∷ []) (q, tt) refl ∙ ap some (value_get (n ∷ []) 0)))
       ∙ read_six 0x7F (omega arith)
 
-  nak_met : (dat es : List ℕ) → ReadMet (Frame (device_of d) (msg.NAK n) 0 0 0) (read_of k (six d 0x7E n)) (six d 0x7E n) dat dat es es
+  -- a message with no text that takes no places
+  abbrev handshake : UniversalNonRealTimeMsg → Reading
+  handshake m = record { device = device_of d; m = m; from = 0; len = 0; places = 0 }
+
+  nak_met : (dat es : List ℕ) → ReadMet (Ok (handshake (msg.NAK n))) (read_of k (six d 0x7E n)) (six d 0x7E n) dat dat es es
   nak_met dat es =
       let e = free_holds (message_of (device_of d) (msg.NAK n) [] []) refl refl (length dat) (length es)
       ∙ ap (holding (length dat) (length es)) nak_read in
       record { says = e; numbers_are = ap text_and_places_of e; data_is = ap (λ (a : Answer Message). data_after a dat) e; entries_are = ap (λ (a : Answer Message). entries_after a es) e }
 
-  ack_met : (dat es : List ℕ) → ReadMet (Frame (device_of d) (msg.ACK n) 0 0 0) (read_of k (six d 0x7F n)) (six d 0x7F n) dat dat es es
+  ack_met : (dat es : List ℕ) → ReadMet (Ok (handshake (msg.ACK n))) (read_of k (six d 0x7F n)) (six d 0x7F n) dat dat es es
   ack_met dat es =
       let e = free_holds (message_of (device_of d) (msg.ACK n) [] []) refl refl (length dat) (length es)
       ∙ ap (holding (length dat) (length es)) ack_read in
@@ -82,11 +88,11 @@ module _ (k : Kind) (d n : ℕ) (p : d < 128) (q : n < 128) where
   unfolding numbers_of
   nak_any a e answer answer' x =
       subst (λ (b : ℕ). ReadAny (read_of k (six d b n)) (six d b n) answer answer') (sym e)
-      (record { reading = Frame (device_of d) (msg.NAK n) 0 0 0; met = nak_met; number_is = refl; answer_is = x })
+      (record { reading = Ok (handshake (msg.NAK n)); met = nak_met; number_is = refl; answer_is = x })
 
   pub ack_any : (a : ℕ) → a ≡ 0x7F → (answer answer' : List ℕ) → answer' ≡ overwritten (3 ∷ 0 ∷ 0 ∷ 0 ∷ 0x7F00 ∷ device_number_of (device_of d) ∷ n ∷ []) answer
       → ReadAny (read_of k (six d a n)) (six d a n) answer answer'
   unfolding numbers_of
   ack_any a e answer answer' x =
       subst (λ (b : ℕ). ReadAny (read_of k (six d b n)) (six d b n) answer answer') (sym e)
-      (record { reading = Frame (device_of d) (msg.ACK n) 0 0 0; met = ack_met; number_is = refl; answer_is = x })
+      (record { reading = Ok (handshake (msg.ACK n)); met = ack_met; number_is = refl; answer_is = x })

@@ -5,19 +5,15 @@ use mathlib.Core.List.{List, [], ◌∷◌, ◌++◌}
 use Prim.Native.Nat.{ℕ, suc, ◌+◌, ◌-◌, ◌≤◌}
 use native.Mathlib.Omega.{arith}
 use lib.Dec.{leb}
-use lib.ListN.{length, take, drop, set}
+use lib.ListN.{length, take, drop}
 use lib.Seq.{drop_at, drop-drop, length-take-le}
 use borrow.Rule.Slice.PartMut.{put_mid}
 use borrow.Author.Tests.{le-leb}
 use Rattle.util.specs.Pick.{pick}
 use Rattle.util.specs.Splice.{overwritten, splice}
-use Rattle.util.proofs.Laws.Splice.{sets_front, tail_room, part_put, part_length}
-use Rattle.messages.specs.Messages.{Answer}
-use Rattle.messages.specs.Messages as message
-use Rattle.reader.specs.declared.lent.Reading.{Reading}
-use Rattle.reader.specs.Reading.{ReadMet}
+use Rattle.util.proofs.Laws.Splice.{tail_room, part_put, part_length}
 
--- numbers put behind the first four places, which are then stored
+-- numbers put behind the first four places, over which four are put then
 module _ (xs ys ns : List ℕ) (room : 20 ≤ length xs) (few : length ns ≤ 16)
     (put : ys ≡ pick (leb (length ns) (length (take (length xs - 4) (drop 4 xs)))) (overwritten ns (take (length xs - 4) (drop 4 xs))) (take (length xs - 4) (drop 4 xs))) where
   put_front : ys ≡ overwritten ns (take (length xs - 4) (drop 4 xs))
@@ -32,12 +28,5 @@ module _ (xs ys ns : List ℕ) (room : 20 ≤ length xs) (few : length ns ≤ 16
       let n : 4 + length ns ≡ suc (suc (suc (suc (length ns)))) = omega arith in
       ap (λ (l : List ℕ). a ∷ b ∷ c ∷ d ∷ l) (drop_at (take 4 xs) (overwritten ns (drop 4 xs)) 4 (length-take-le 4 xs h) ∙ ap (λ (l : List ℕ). ns ++ l) (drop-drop (length ns) 4 xs ∙ ap (λ (k : ℕ). drop k xs) n))
 
-  pub behind_four : (a b c d : ℕ) → set (set (set (set (put_mid 4 (length xs - 4) xs ys) 0 a) 1 b) 2 c) 3 d ≡ overwritten (a ∷ b ∷ c ∷ d ∷ ns) xs
-  behind_four a b c d =
-      sets_front (a ∷ b ∷ c ∷ d ∷ []) (put_mid 4 (length xs - 4) xs ys) (omega (arith, behind_length))
-      ∙ ap (overwritten (a ∷ b ∷ c ∷ d ∷ [])) (part_put xs ys ns 4 put_front)
-      ∙ front_behind a b c d
-
--- what was read, as the answer says it
-pub met_as : {x y : Reading} {a : Answer message.Message} {frame dat dat' es es' : List ℕ} → x ≡ y → ReadMet x a frame dat dat' es es' → ReadMet y a frame dat dat' es es'
-met_as {x} {y} {a} {frame} {dat} {dat'} {es} {es'} e r = subst (λ (z : Reading). ReadMet z a frame dat dat' es es') e r
+  pub behind_four : (a b c d : ℕ) → overwritten (a ∷ b ∷ c ∷ d ∷ []) (put_mid 4 (length xs - 4) xs ys) ≡ overwritten (a ∷ b ∷ c ∷ d ∷ ns) xs
+  behind_four a b c d = ap (overwritten (a ∷ b ∷ c ∷ d ∷ [])) (part_put xs ys ns 4 put_front) ∙ front_behind a b c d

@@ -11,16 +11,17 @@ use Rattle.messages.specs.declared.system_exclusive.DeviceID.{DeviceID}
 use Rattle.messages.specs.declared.system_exclusive.UniversalNonRealTimeMsg.{UniversalNonRealTimeMsg}
 use Rattle.messages.specs.Fields.{device_of}
 use Rattle.messages.specs.Messages.{Message, Answer}
-use Rattle.read_places.specs.declared.Found.TheVariants.{Is}
+use Rattle.std.specs.Prelude.{Some, Result, Ok}
+use Rattle.util.specs.declared.refusal.Refusal.{Refusal}
+use Rattle.read_places.specs.declared.Found.{Found}
 use Rattle.read_places.specs.Found.{Reads, data_of, entries_of}
 use Rattle.util.proofs.Laws.Options.{false_true}
 use Rattle.reader.specs.declared.lent.Reading.{Reading}
-use Rattle.reader.specs.declared.lent.Reading.TheVariants as reading
-use Rattle.reader.specs.declared.opening.Opening.TheVariants as opening
+use Rattle.reader.specs.declared.opening.Opening.{Opening}
 use Rattle.reader.specs.Opening.{inner, opens_as, placed}
 use Rattle.reader.specs.Reading.{reading_number, ReadMet}
 use Rattle.reader.specs.Filled.{enough, Filled}
-use Rattle.reader.proofs.Laws.Fields.{lent_fields, begin, read_right}
+use Rattle.reader.proofs.Laws.Fields.{lent_fields, reading, begin, read_right}
 use Rattle.numbers_read.specs.Read.{ReadTo}
 use Rattle.numbers_read.specs.Plain.{ReadPlain, Numbered}
 
@@ -29,30 +30,26 @@ no_elements [] e = refl
 no_elements (x ∷ l) e = absurd (omega arith)
 
 -- a message that takes no places fills any lent space
-filled : (d : DeviceID) (m : UniversalNonRealTimeMsg) (from len i n : ℕ) (f dat es : List ℕ) → length (data_of m f i) + length (entries_of m f i n) ≡ n → n ≡ 0
-    → Filled (reading.Frame d m from len 0) d m from len i n f dat dat es es
-filled d m from len i n f dat es s e =
-    let x : data_of m f i ≡ [] = no_elements (data_of m f i) (omega (arith, s, e)) in
-    let y : entries_of m f i n ≡ [] = no_elements (entries_of m f i n) (omega (arith, s, e)) in
-    let t : enough m f i n dat es ≡ true = rw (x, y, le-leb 0 (length dat) (omega arith), le-leb 0 (length es) (omega arith)) in
-    record {
-      says = rw t (ap (reading.Frame d m from len) (sym e));
-      data_is = rw (t, x);
-      entries_are = rw (t, y);
-    }
+filled : (x : Reading) (i : ℕ) (f dat es : List ℕ) → length (data_of x.m f i) + length (entries_of x.m f i x.places) ≡ x.places → x.places ≡ 0
+    → Filled (Ok x) x i f dat dat es es
+filled x i f dat es s e =
+    let a : data_of x.m f i ≡ [] = no_elements (data_of x.m f i) (omega (arith, s, e)) in
+    let b : entries_of x.m f i x.places ≡ [] = no_elements (entries_of x.m f i x.places) (omega (arith, s, e)) in
+    let t : enough x.m f i x.places dat es ≡ true = rw (a, b, le-leb 0 (length dat) (omega arith), le-leb 0 (length es) (omega arith)) in
+    record { says = rw t; data_is = rw (t, a); entries_are = rw (t, b) }
 
-module _ (frame : List ℕ) (h : Head) (start end : ℕ) (sum : Bool) (p : placed (opening.Fields h start end sum) (inner frame)) where
+module _ (frame : List ℕ) (o : Opening) (p : placed (Ok o) (inner frame)) where
   -- the fields are such a message
-  pub plain_met : {m : UniversalNonRealTimeMsg} {from len i n : ℕ} (w : Reads h (Is m from len i n) (lent_fields frame h start end sum p)) → n ≡ 0 → sum ≡ true
-      → (d : DeviceID) (b : ℕ) → d ≡ device_of (get_or frame 2 0) → b ≡ begin frame h start end sum p w → (dat es : List ℕ)
-      → ReadMet (reading.Frame d m b len 0) (opens_as (opening.Fields h start end sum) (inner frame)) frame dat dat es es
-  plain_met {m} {from} {len} {i} {n} w e t d b q x dat es =
-      read_right frame h start end sum p w (reading.Frame d m b len 0) d b q t x dat dat es es
-      (filled d m b len i n (lent_fields frame h start end sum p) dat es w.part.3 e)
+  pub plain_met : {z : Found} (w : Reads o.h (Some z) (lent_fields frame o p)) → z.count ≡ 0 → o.sum ≡ true
+      → (d : DeviceID) (b : ℕ) → d ≡ device_of (get_or frame 2 0) → b ≡ begin frame o p w → (dat es : List ℕ)
+      → ReadMet (Ok (reading frame o p w d b)) (opens_as (Ok o) (inner frame)) frame dat dat es es
+  plain_met {z} w e t d b q x dat es =
+      read_right frame o p w (Ok (reading frame o p w d b)) d b q t x dat dat es es
+      (filled (reading frame o p w d b) z.at (lent_fields frame o p) dat es w.part.3 e)
 
 module _ (a : Answer Message) (frame answer answer' : List ℕ) where
   -- its numbers were put, or they were not
-  pub plain_put : (t : Bool) (r : Reading) → Numbered t r answer answer' → 0 ≡ reading_number r → ((dat es : List ℕ) → ReadMet r a frame dat dat es es)
+  pub plain_put : (t : Bool) (r : Result Reading Refusal) → Numbered t r answer answer' → 0 ≡ reading_number r → ((dat es : List ℕ) → ReadMet r a frame dat dat es es)
       → ReadPlain t a frame answer answer'
   plain_put true r x z w = record { reading = r; met = w; number_is = z; answer_is = x }
   plain_put false r x z w = x

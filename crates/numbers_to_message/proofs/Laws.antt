@@ -8,30 +8,33 @@ use Prim.Native.Nat.{ℕ, zero, suc, ◌+◌, ◌≤◌, ◌<◌}
 use native.Mathlib.Omega.{arith}
 use native.Mathlib.Numerals.{add-one}
 use lib.Dec.{ltb, leb}
-use lib.ListN.{length, take, drop, get_or, length-take, drop_of_length-le}
-use lib.Seq.{drop-cons, get_or-take}
+use lib.ListN.{length, drop, get_or, drop_of_length-le}
+use lib.Seq.{drop-cons}
 use borrow.Author.Tests.{ltb-true, ltb-false, leb-true, leb-false, lt-ltb, le-ltb, le-leb, lt-leb, ne_eqb}
 use Rattle.util.specs.Pick.{pick}
 use Rattle.util.specs.Options.{map_option}
 use Rattle.numbers_to_message.specs.Types.{NumberType, DeviceID, UniversalNonRealTimeMsg, Made}
-use Rattle.numbers_to_message.specs.declared.Made.TheVariants.{Malformed}
+use Rattle.std.specs.Prelude.{Some, None}
+use Rattle.std.specs.Bool.{then_some}
+use Rattle.std.specs.Option.{option_or}
+use Rattle.std.specs.Prelude as std
 use Rattle.numbers_to_message.specs.declared.fit.NumberType.TheVariants.{U8, Flag, Device, ReferenceType}
 use Rattle.numbers_to_message.specs.Values.{value, or_else}
 use Rattle.numbers_to_message.specs.Rows.{Fun, Row}
 use Rattle.numbers_to_message.specs.Table.{given, read, read_first, or_other, rows_of}
 use Rattle.numbers_to_message.specs.Fits.{is_some, fit, taken, misfit, fits, made, message_if, row_message, row_fits, fits_any, first_message}
 
-given_is : {A : Type 0} (o : Option A) (b : A) (k : A → Made) → given o k ≡ pick (is_some o) (k (or_else o b)) Malformed
+given_is : {A : Type 0} (o : Option A) (b : A) (k : A → Made) → given o k ≡ pick (is_some o) (k (or_else o b)) None
 given_is none b k = refl
 given_is (some a) b k = refl
 
-pub given_none : {A : Type 0} (o : Option A) (b : A) (k : A → Made) → is_some o ≡ false → given o k ≡ Malformed
-given_none o b k e = given_is o b k ∙ ap (λ (x : Bool). pick x (k (or_else o b)) Malformed) e
+pub given_none : {A : Type 0} (o : Option A) (b : A) (k : A → Made) → is_some o ≡ false → given o k ≡ None
+given_none o b k e = given_is o b k ∙ ap (λ (x : Bool). pick x (k (or_else o b)) None) e
 
 pub given_some : {A : Type 0} (o : Option A) (b : A) (k : A → Made) → is_some o ≡ true → given o k ≡ k (or_else o b)
-given_some o b k e = given_is o b k ∙ ap (λ (x : Bool). pick x (k (or_else o b)) Malformed) e
+given_some o b k e = given_is o b k ∙ ap (λ (x : Bool). pick x (k (or_else o b)) None) e
 
-both : (a b : Bool) (d : DeviceID) (m : UniversalNonRealTimeMsg) → pick a (message_if b d m) Malformed ≡ message_if (pick a b false) d m
+both : (a b : Bool) (d : DeviceID) (m : UniversalNonRealTimeMsg) → pick a (message_if b d m) None ≡ message_if (pick a b false) d m
 both true b d m = refl
 both false b d m = refl
 
@@ -50,7 +53,7 @@ module _ (d : DeviceID) (v : List ℕ) where
   next_is t ts m i true e k =
       rw (drop-cons v i 0 (ltb-true _ _ e))
       (given_is (value t (get_or v i 0)) (misfit t) (λ a. read ts (m a) d (drop (suc i) v))
-      ∙ ap (λ (r : Made). pick (fit t (get_or v i 0)) r Malformed) (k (m (taken t (get_or v i 0))))
+      ∙ ap (λ (r : Made). pick (fit t (get_or v i 0)) r None) (k (m (taken t (get_or v i 0))))
       ∙ both (fit t (get_or v i 0)) (fits ts v (suc i)) d (made (t ∷ ts) m v i))
   next_is t ts m i false e k = rw (drop_of_length-le v {i = i} (ltb-false _ _ e))
 
@@ -79,6 +82,30 @@ pick_yes {T} {b} {r} {x} {z} y p q e = e ∙ ap (λ (w : Bool). pick w x y) (sym
 
 pub pick_no : {T : Type 0} {b r : Bool} {y z : T} (x : T) → r ≡ b → r ≡ false → z ≡ y → z ≡ pick b x y
 pick_no {T} {b} {r} {y} {z} x p q e = e ∙ ap (λ (w : Bool). pick w x y) (sym q ∙ p)
+
+-- ---- the message of rows
+
+-- the message of two rows, and that of four
+pub two_said : {A : Type 0} (a b : Bool) (m n : A) → option_or (then_some a m) (then_some b n) ≡ then_some (pick a true b) (pick a m n)
+two_said true b m n = refl
+two_said false b m n = refl
+
+pub four_said : {A : Type 0} (a b c d : Bool) (m n p q : A)
+    → option_or (option_or (option_or (then_some a m) (then_some b n)) (then_some c p)) (then_some d q)
+    ≡ then_some (pick a true (pick b true (pick c true d))) (pick a m (pick b n (pick c p q)))
+four_said true b c d m n p q = refl
+four_said false true c d m n p q = refl
+four_said false false true d m n p q = refl
+four_said false false false d m n p q = refl
+
+-- a device and the message that some rows say
+pub said_none : (b : Bool) (d : DeviceID) (m : UniversalNonRealTimeMsg) → then_some b m ≡ None → message_if b d m ≡ None
+said_none false d m e = refl
+said_none true d m e = cc
+
+pub said_some : (b : Bool) (d : DeviceID) (m n : UniversalNonRealTimeMsg) → then_some b m ≡ Some n → message_if b d m ≡ Some (d, n)
+said_some false d m n e = cc
+said_some true d m n e = cc
 
 -- ---- whether a value is some
 
@@ -116,21 +143,17 @@ upper_some x n a false e = le-leb n x (ltb-false x n e)
 
 -- ---- the loop over the types of a row
 
-module _ (types : List NumberType) (count : ℕ) (h : count ≤ length types) (v : List ℕ) (i : ℕ) (l : i < count) where
-  type_at : (d : NumberType) → drop i (take count types) ≡ get_or types i d ∷ drop (suc i) (take count types)
-  type_at d =
-      drop-cons (take count types) i d (simp (length-take) (omega arith))
-      ∙ ap (λ (t : NumberType). t ∷ drop (suc i) (take count types)) (get_or-take count types i d l)
+module _ (types : List NumberType) (v : List ℕ) (i : ℕ) where
+  module _ (l : i < length types) where
+    pub turn_short : length v ≤ i + 2 → false ≡ fits (drop i types) v (i + 2)
+    turn_short s = rw (drop-cons types i U8, le-ltb _ _ s)
 
-  pub turn_short : length v ≤ i + 2 → false ≡ fits (drop i (take count types)) v (i + 2)
-  turn_short s = rw (type_at U8, le-ltb _ _ s)
+    pub turn_misfit : (t : NumberType) → t ≡ get_or types i t → fit t (get_or v (i + 2) 0) ≡ false → i + 2 < length v → false ≡ fits (drop i types) v (i + 2)
+    turn_misfit t g e s = rw (drop-cons types i t, ← g, lt-ltb _ _ s, e)
 
-  pub turn_misfit : (d : NumberType) → fit (get_or types i d) (get_or v (i + 2) 0) ≡ false → i + 2 < length v → false ≡ fits (drop i (take count types)) v (i + 2)
-  turn_misfit d e s = rw (type_at d, lt-ltb _ _ s, e)
+    pub turn_fit : (t : NumberType) → t ≡ get_or types i t → fit t (get_or v (i + 2) 0) ≡ true → i + 2 < length v
+        → fits (drop (i + 1) types) v (i + 1 + 2) ≡ fits (drop i types) v (i + 2)
+    turn_fit t g e s = let z : i + 1 + 2 ≡ suc (i + 2) = omega arith in rw (z, add-one, drop-cons types i t, ← g, lt-ltb _ _ s, e)
 
-  pub turn_fit : (d : NumberType) → fit (get_or types i d) (get_or v (i + 2) 0) ≡ true → i + 2 < length v
-      → fits (drop (i + 1) (take count types)) v (i + 1 + 2) ≡ fits (drop i (take count types)) v (i + 2)
-  turn_fit d e s = let z : i + 1 + 2 ≡ suc (i + 2) = omega arith in rw (z, add-one, type_at d, lt-ltb _ _ s, e)
-
-pub turn_done : (types : List NumberType) (count : ℕ) (v : List ℕ) → leb (length v) (count + 2) ≡ fits (drop count (take count types)) v (count + 2)
-turn_done types count v = rw (drop_of_length-le (take count types) {i = count} (simp length-take (omega arith)))
+  pub turn_done : length types ≤ i → leb (length v) (i + 2) ≡ fits (drop i types) v (i + 2)
+  turn_done h = rw (drop_of_length-le types {i = i} h)

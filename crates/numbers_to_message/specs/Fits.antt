@@ -1,15 +1,15 @@
 -- Numbers by place: whether they fit a row, and the values of those that fit.
-use Rattle.std.specs.Prelude.{Bool, true, false, List, [], ◌∷◌, ℕ, suc, leb, ltb, pos, length, get_or}
+use Rattle.std.specs.Prelude as std
+use Rattle.std.specs.Prelude.{Some, None, Bool, true, false, List, [], ◌∷◌, ℕ, suc, leb, ltb, pos, length, get_or}
+use Rattle.std.specs.Bool.{then_some}
 use Rattle.std.proofs.Math.Option.{Option, none, some}
 use Rattle.util.specs.Pick.{pick}
 use Rattle.numbers_to_message.specs.Types.{NumberType, DeviceID, UniversalNonRealTimeMsg, Made}
 use Rattle.numbers_to_message.specs.Values.{Value, value, or_else}
 use Rattle.numbers_to_message.specs.Rows.{Fun, Row}
 use Rattle.numbers_to_message.specs.declared.fit.NumberType.TheVariants as type
-use Rattle.numbers_to_message.specs.declared.Made.TheVariants.{Message, Malformed}
 use Rattle.messages.specs.declared.system_exclusive.DeviceID.TheVariants.{Device}
 use Rattle.messages.specs.declared.system_exclusive.UniversalNonRealTimeMsg.TheVariants as msg
-use Rattle.messages.specs.declared.tuning.TuningBank.TheVariants.{Bank}
 use Rattle.messages.specs.declared.sample_dump.LoopNumber.TheVariants.{Loop}
 use Rattle.messages.specs.declared.sample_dump.LoopType.TheVariants as loop
 use Rattle.messages.specs.declared.sample_dump.ExtendedLoopType.TheVariants as ext
@@ -32,7 +32,7 @@ misfit type.LoopType = loop.Off
 misfit type.ExtendedLoopType = ext.OneShot
 misfit type.FileType = MIDI
 misfit type.ReferenceType = reference.WAV
-misfit type.BankOrNone = Bank 0
+misfit type.BankOrNone = Some 0
 misfit type.Zero = tt
 misfit type.One = tt
 misfit type.Two = tt
@@ -59,7 +59,7 @@ made [] m v i = m
 made (t ∷ ts) m v i = made ts (m (taken t (get_or v i 0))) v (suc i)
 
 abbrev pub message_if : Bool → DeviceID → UniversalNonRealTimeMsg → Made
-message_if b d m = pick b (Message d m) Malformed
+message_if b d m = pick b (Some (d, m)) None
 
 -- the message of a row
 abbrev pub row_message : Row → List ℕ → UniversalNonRealTimeMsg
@@ -79,3 +79,11 @@ abbrev pub first_message : List Row → List ℕ → UniversalNonRealTimeMsg
 first_message [] v = msg.EOF
 first_message (r ∷ []) v = row_message r v
 first_message (r ∷ s ∷ rs) v = pick (row_fits r v) (row_message r v) (first_message (s ∷ rs) v)
+
+-- the message of a row, where the numbers fit it
+abbrev pub row_said : Row → List ℕ → std.Option UniversalNonRealTimeMsg
+row_said r v = then_some (row_fits r v) (row_message r v)
+
+-- the message of some rows, where the numbers fit one
+abbrev pub said : List Row → List ℕ → std.Option UniversalNonRealTimeMsg
+said rs v = then_some (fits_any rs v) (first_message rs v)

@@ -1,6 +1,6 @@
 -- Records of numbers by place.
-use Rattle.std.specs.Prelude.{List, ℕ, ◌+◌, get_or}
-use Rattle.numbers_to_message.specs.Types.{Scale1Byte, Scale2Byte, WAVMap, ManufacturerID, UniversalNonRealTimeMsg}
+use Rattle.std.specs.Prelude.{List, [], ◌∷◌, ℕ, ℤ, ◌+◌, get_or}
+use Rattle.numbers_to_message.specs.Types.{WAVMap, ManufacturerID, UniversalNonRealTimeMsg}
 use Rattle.numbers_to_message.specs.Fits.{taken}
 use Rattle.numbers_to_message.specs.Rows.{reply, wav_map}
 use Rattle.numbers_to_message.specs.declared.fit.NumberType.TheVariants.{U8, U16, I8, I16}
@@ -14,36 +14,10 @@ wav_map_at v i =
     wav_map (taken U16 (get_or v i 0)) (taken U8 (get_or v (i + 1) 0)) (taken U8 (get_or v (i + 2) 0)) (taken U8 (get_or v (i + 3) 0)) (taken U8 (get_or v (i + 4) 0))
     (taken I16 (get_or v (i + 5) 0)) (taken U8 (get_or v (i + 6) 0))
 
-abbrev pub scale_1_at : List ℕ → ℕ → Scale1Byte
+abbrev pub scale_1_at : List ℕ → ℕ → List ℤ
 scale_1_at v i =
-    record {
-      c = taken I8 (get_or v i 0);
-      c_sharp = taken I8 (get_or v (i + 1) 0);
-      d = taken I8 (get_or v (i + 2) 0);
-      d_sharp = taken I8 (get_or v (i + 3) 0);
-      e = taken I8 (get_or v (i + 4) 0);
-      f = taken I8 (get_or v (i + 5) 0);
-      f_sharp = taken I8 (get_or v (i + 6) 0);
-      g = taken I8 (get_or v (i + 7) 0);
-      g_sharp = taken I8 (get_or v (i + 8) 0);
-      a = taken I8 (get_or v (i + 9) 0);
-      a_sharp = taken I8 (get_or v (i + 10) 0);
-      b = taken I8 (get_or v (i + 11) 0);
-    }
+    taken I8 (get_or v i 0) ∷ taken I8 (get_or v (i + 1) 0) ∷ taken I8 (get_or v (i + 2) 0) ∷ taken I8 (get_or v (i + 3) 0) ∷ taken I8 (get_or v (i + 4) 0) ∷ taken I8 (get_or v (i + 5) 0) ∷ taken I8 (get_or v (i + 6) 0) ∷ taken I8 (get_or v (i + 7) 0) ∷ taken I8 (get_or v (i + 8) 0) ∷ taken I8 (get_or v (i + 9) 0) ∷ taken I8 (get_or v (i + 10) 0) ∷ taken I8 (get_or v (i + 11) 0) ∷ []
 
-abbrev pub scale_2_at : List ℕ → ℕ → Scale2Byte
+abbrev pub scale_2_at : List ℕ → ℕ → List ℤ
 scale_2_at v i =
-    record {
-      c = taken I16 (get_or v i 0);
-      c_sharp = taken I16 (get_or v (i + 1) 0);
-      d = taken I16 (get_or v (i + 2) 0);
-      d_sharp = taken I16 (get_or v (i + 3) 0);
-      e = taken I16 (get_or v (i + 4) 0);
-      f = taken I16 (get_or v (i + 5) 0);
-      f_sharp = taken I16 (get_or v (i + 6) 0);
-      g = taken I16 (get_or v (i + 7) 0);
-      g_sharp = taken I16 (get_or v (i + 8) 0);
-      a = taken I16 (get_or v (i + 9) 0);
-      a_sharp = taken I16 (get_or v (i + 10) 0);
-      b = taken I16 (get_or v (i + 11) 0);
-    }
+    taken I16 (get_or v i 0) ∷ taken I16 (get_or v (i + 1) 0) ∷ taken I16 (get_or v (i + 2) 0) ∷ taken I16 (get_or v (i + 3) 0) ∷ taken I16 (get_or v (i + 4) 0) ∷ taken I16 (get_or v (i + 5) 0) ∷ taken I16 (get_or v (i + 6) 0) ∷ taken I16 (get_or v (i + 7) 0) ∷ taken I16 (get_or v (i + 8) 0) ∷ taken I16 (get_or v (i + 9) 0) ∷ taken I16 (get_or v (i + 10) 0) ∷ taken I16 (get_or v (i + 11) 0) ∷ []

@@ -1,12 +1,11 @@
 -- The rows of the format: for each head code and form the types of the fields in order, and the message that they are.
-use Rattle.std.specs.Prelude.{List, [], ◌∷◌, ℕ, ℤ}
-use Rattle.numbers_to_message.specs.Types.{NumberType, FileReferenceType, WAVMap, SelectMap, Scale1Byte, Scale2Byte, ManufacturerID, UniversalNonRealTimeMsg}
+use Rattle.std.specs.Prelude.{Some, None, List, [], ◌∷◌, ℕ, ℤ}
+use Rattle.numbers_to_message.specs.Types.{NumberType, FileReferenceType, WAVMap, SelectMap, ManufacturerID, UniversalNonRealTimeMsg}
 use Rattle.numbers_to_message.specs.Values.{Value}
 use Rattle.numbers_to_message.specs.declared.fit.NumberType.TheVariants.{U8, U16, U32, U64, I8, I16, Flag, Device, RequestedLoop, TransmittedLoop, LoopType, ExtendedLoopType, FileType, ReferenceType, BankOrNone, Zero, One, Two, Three}
 use Rattle.messages.specs.declared.sample_dump.SampleDumpMsg.TheVariants as sample
 use Rattle.messages.specs.declared.sample_dump.ExtendedSampleDumpMsg.TheVariants as extended
 use Rattle.messages.specs.declared.file_dump.FileDumpMsg.TheVariants as file
-use Rattle.messages.specs.declared.tuning.TuningBank.TheVariants.{NoBank, Bank}
 use Rattle.messages.specs.declared.file_reference.SelectMap.TheVariants as select
 use Rattle.messages.specs.declared.file_reference.FileReferenceMsg.TheVariants as reference
 use Rattle.messages.specs.declared.system_exclusive.ManufacturerID.TheVariants.{OneByte, Extended}
@@ -60,7 +59,7 @@ identity_request = record { types = []; make = msg.IdentityRequest }
 
 abbrev pub reply : ManufacturerID → ℕ → ℕ → ℕ → ℕ → ℕ → ℕ → UniversalNonRealTimeMsg
 reply id f m a b c d =
-    msg.IdentityReply (record { id = id; family = f; family_member = m; software_revision = record { first = a; second = b; third = c; fourth = d } })
+    msg.IdentityReply (record { id = id; family = f; family_member = m; software_revision = (a, b, c, d) })
 
 abbrev pub one_byte_reply : Row
 one_byte_reply = record { types = Zero ∷ U8 ∷ Zero ∷ U16 ∷ U16 ∷ U8 ∷ U8 ∷ U8 ∷ U8 ∷ []; make = λ u m n. reply (OneByte m) }
@@ -80,16 +79,16 @@ file_request = record { types = Device ∷ FileType ∷ []; make = λ r t. msg.F
 
 -- tunings
 abbrev pub bulk_request : Row
-bulk_request = record { types = U8 ∷ []; make = λ p. msg.TuningBulkDumpRequest NoBank p }
+bulk_request = record { types = U8 ∷ []; make = λ p. msg.TuningBulkDumpRequest None p }
 
 abbrev pub bank_bulk_request : Row
-bank_bulk_request = record { types = U8 ∷ U8 ∷ []; make = λ b p. msg.TuningBulkDumpRequest (Bank b) p }
+bank_bulk_request = record { types = U8 ∷ U8 ∷ []; make = λ b p. msg.TuningBulkDumpRequest (Some b) p }
 
 abbrev pub keys : Row
-keys = record { types = U8 ∷ []; make = λ p. msg.KeyBasedTuningDump (record { tuning_bank_num = NoBank; tuning_program_num = p }) }
+keys = record { types = U8 ∷ []; make = λ p. msg.KeyBasedTuningDump (record { tuning_bank_num = None; tuning_program_num = p }) }
 
 abbrev pub bank_keys : Row
-bank_keys = record { types = U8 ∷ U8 ∷ []; make = λ b p. msg.KeyBasedTuningDump (record { tuning_bank_num = Bank b; tuning_program_num = p }) }
+bank_keys = record { types = U8 ∷ U8 ∷ []; make = λ b p. msg.KeyBasedTuningDump (record { tuning_bank_num = Some b; tuning_program_num = p }) }
 
 abbrev pub note_change : Row
 note_change = record { types = BankOrNone ∷ U8 ∷ []; make = λ b p. msg.TuningNoteChange (record { tuning_bank_num = b; tuning_program_num = p }) }
@@ -98,11 +97,11 @@ note_change = record { types = BankOrNone ∷ U8 ∷ []; make = λ b p. msg.Tuni
 abbrev pub twelve : NumberType → List NumberType
 twelve t = t ∷ t ∷ t ∷ t ∷ t ∷ t ∷ t ∷ t ∷ t ∷ t ∷ t ∷ t ∷ []
 
-abbrev pub scale_1 : (Scale1Byte → UniversalNonRealTimeMsg) → Fun (twelve I8) UniversalNonRealTimeMsg
-scale_1 f = λ c c' d d' e g g' h h' a a' b. f (record { c = c; c_sharp = c'; d = d; d_sharp = d'; e = e; f = g; f_sharp = g'; g = h; g_sharp = h'; a = a; a_sharp = a'; b = b })
+abbrev pub scale_1 : (List ℤ → UniversalNonRealTimeMsg) → Fun (twelve I8) UniversalNonRealTimeMsg
+scale_1 f = λ c c' d d' e g g' h h' a a' b. f (c ∷ c' ∷ d ∷ d' ∷ e ∷ g ∷ g' ∷ h ∷ h' ∷ a ∷ a' ∷ b ∷ [])
 
-abbrev pub scale_2 : (Scale2Byte → UniversalNonRealTimeMsg) → Fun (twelve I16) UniversalNonRealTimeMsg
-scale_2 f = λ c c' d d' e g g' h h' a a' b. f (record { c = c; c_sharp = c'; d = d; d_sharp = d'; e = e; f = g; f_sharp = g'; g = h; g_sharp = h'; a = a; a_sharp = a'; b = b })
+abbrev pub scale_2 : (List ℤ → UniversalNonRealTimeMsg) → Fun (twelve I16) UniversalNonRealTimeMsg
+scale_2 f = λ c c' d d' e g g' h h' a a' b. f (c ∷ c' ∷ d ∷ d' ∷ e ∷ g ∷ g' ∷ h ∷ h' ∷ a ∷ a' ∷ b ∷ [])
 
 abbrev pub scale_dump_1 : Row
 scale_dump_1 = record { types = U8 ∷ U8 ∷ twelve I8; make = λ b p. scale_1 (λ s. msg.ScaleTuningDump1Byte (record { tuning_bank_num = b; tuning_program_num = p; tuning = s })) }

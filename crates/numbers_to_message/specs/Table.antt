@@ -1,5 +1,5 @@
 -- A message as numbers: head code, device, then the fields of a row of the head code.
-use Rattle.std.specs.Prelude.{List, [], ◌∷◌, ℕ, ◌/◌, ltb, eqb, length, drop, get_or}
+use Rattle.std.specs.Prelude.{Some, None, List, [], ◌∷◌, ℕ, ◌/◌, ltb, eqb, length, drop, get_or}
 use Rattle.std.proofs.Math.Option.{Option, none, some}
 use Rattle.util.specs.Pick.{pick}
 use Rattle.numbers_to_message.specs.Types.{NumberType, DeviceID, UniversalNonRealTimeMsg, Made}
@@ -7,28 +7,27 @@ use Rattle.numbers_to_message.specs.Values.{value}
 use Rattle.numbers_to_message.specs.Rows.{Fun, Row, no_fields}
 use Rattle.numbers_to_message.specs.Rows as row
 use Rattle.numbers_to_message.specs.declared.fit.NumberType.TheVariants.{Device}
-use Rattle.numbers_to_message.specs.declared.Made.TheVariants.{Message, Malformed}
 use Rattle.messages.specs.declared.general_midi.GeneralMidi.TheVariants.{GM1, Off, GM2}
 use Rattle.messages.specs.declared.system_exclusive.UniversalNonRealTimeMsg.TheVariants as msg
 
 abbrev pub given : {A : Type 0} → Option A → (A → Made) → Made
-given none f = Malformed
+given none f = None
 given (some a) f = f a
 
 -- the message of numbers: one for each type, and each says a value
 abbrev pub read : (ts : List NumberType) → Fun ts UniversalNonRealTimeMsg → DeviceID → List ℕ → Made
-read [] m d [] = Message d m
-read [] m d (x ∷ l) = Malformed
-read (t ∷ ts) m d [] = Malformed
+read [] m d [] = Some (d, m)
+read [] m d (x ∷ l) = None
+read (t ∷ ts) m d [] = None
 read (t ∷ ts) m d (x ∷ l) = given (value t x) (λ a. read ts (m a) d l)
 
 abbrev pub or_other : Made → Made → Made
-or_other (Message d m) b = Message d m
-or_other Malformed b = b
+or_other (Some a) b = Some a
+or_other None b = b
 
 -- the message by the first of some rows that the numbers are of
 abbrev pub read_first : List Row → DeviceID → List ℕ → Made
-read_first [] d l = Malformed
+read_first [] d l = None
 read_first (r ∷ []) d l = read r.types r.make d l
 read_first (r ∷ s ∷ rs) d l = or_other (read r.types r.make d l) (read_first (s ∷ rs) d l)
 
@@ -126,4 +125,4 @@ abbrev pub rows_of : ℕ → List Row
 rows_of code = find code (find (code / 256) by_first []) []
 
 unfoldable pub message_of_numbers : List ℕ → Made
-message_of_numbers v = pick (ltb (length v) 2) Malformed (given (value Device (get_or v 1 0)) (λ d. read_first (rows_of (get_or v 0 0)) d (drop 2 v)))
+message_of_numbers v = pick (ltb (length v) 2) None (given (value Device (get_or v 1 0)) (λ d. read_first (rows_of (get_or v 0 0)) d (drop 2 v)))

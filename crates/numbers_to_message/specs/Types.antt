@@ -1,7 +1,5 @@
--- The types that the code declares, as one list of names.
-pub use Rattle.messages.specs.declared.tuning.Scale1Byte.{Scale1Byte}
-pub use Rattle.messages.specs.declared.tuning.Scale2Byte.{Scale2Byte}
-pub use Rattle.messages.specs.declared.tuning.TuningBank.{TuningBank}
+-- The types that the code declares, as one list of names, and what numbers are read as.
+use Rattle.std.specs.Prelude.{Option}
 pub use Rattle.messages.specs.declared.file_dump.FileDumpMsg.{FileDumpMsg}
 pub use Rattle.messages.specs.declared.file_dump.FileType.{FileType}
 pub use Rattle.messages.specs.declared.file_reference.FileReferenceMsg.{FileReferenceMsg}
@@ -19,4 +17,7 @@ pub use Rattle.messages.specs.declared.system_exclusive.IdentityReply.{IdentityR
 pub use Rattle.messages.specs.declared.system_exclusive.ManufacturerID.{ManufacturerID}
 pub use Rattle.messages.specs.declared.system_exclusive.UniversalNonRealTimeMsg.{UniversalNonRealTimeMsg}
 pub use Rattle.numbers_to_message.specs.declared.fit.NumberType.{NumberType}
-pub use Rattle.numbers_to_message.specs.declared.Made.{Made}
+
+-- a device and a message, or nothing
+abbrev pub Made : Type 0
+Made = Option (DeviceID × UniversalNonRealTimeMsg)

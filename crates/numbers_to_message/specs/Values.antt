@@ -1,14 +1,14 @@
 -- What a number of a message says by its type: a value, or nothing.
-use Rattle.std.specs.Prelude.{Bool, true, false, List, [], ◌∷◌, ℕ, ◌+◌, ◌*◌, ◌-◌, ◌/◌, ◌%◌, ◌^◌, ltb, eqb, ℤ, pos, negsuc}
+use Rattle.std.specs.Prelude.{Bool, true, false, List, [], ◌∷◌, ℕ, ◌+◌, ◌*◌, ◌-◌, ◌/◌, ◌%◌, ◌^◌, ltb, eqb, ℤ, pos, negsuc, Some, None}
+use Rattle.std.specs.Prelude as std
 use Rattle.std.proofs.Math.Option.{Option, none, some}
 use Rattle.util.specs.Pick.{pick}
 use Rattle.util.specs.Options.{map_option}
 use Rattle.messages.specs.Fields.{bit, type_chars, named_types}
 use Rattle.messages.specs.Structures.{loop_byte, extended_loop_byte}
-use Rattle.numbers_to_message.specs.Types.{NumberType, DeviceID, LoopNumber, LoopType, ExtendedLoopType, FileType, FileReferenceType, TuningBank}
+use Rattle.numbers_to_message.specs.Types.{NumberType, DeviceID, LoopNumber, LoopType, ExtendedLoopType, FileType, FileReferenceType}
 use Rattle.numbers_to_message.specs.declared.fit.NumberType.TheVariants as type
 use Rattle.messages.specs.declared.system_exclusive.DeviceID.TheVariants.{Device, AllCall}
-use Rattle.messages.specs.declared.tuning.TuningBank.TheVariants.{NoBank, Bank}
 use Rattle.messages.specs.declared.sample_dump.LoopNumber.TheVariants.{Loop, RequestAll, DeleteAll}
 use Rattle.messages.specs.declared.sample_dump.LoopType.TheVariants as loop
 use Rattle.messages.specs.declared.sample_dump.ExtendedLoopType.TheVariants as ext
@@ -44,9 +44,9 @@ loop_index_of RequestAll = 65536
 loop_index_of DeleteAll = 65536
 
 -- "bank (256 none)"
-abbrev pub bank_number_of : TuningBank → ℕ
-bank_number_of (Bank n) = n
-bank_number_of NoBank = 256
+abbrev pub bank_number_of : std.Option ℕ → ℕ
+bank_number_of (Some n) = n
+bank_number_of None = 256
 
 -- ---- the value that a number says
 
@@ -73,7 +73,7 @@ or_else (some a) b = a
 
 -- a named type where its four bytes are spelled
 abbrev pub spelled : ℕ → FileType
-spelled x = or_else (numbered file_number_of named_types x) (Custom (x / 2 ^ 24) (x / 2 ^ 16 % 256) (x / 2 ^ 8 % 256) (x % 256))
+spelled x = or_else (numbered file_number_of named_types x) (Custom (x / 2 ^ 24 ∷ x / 2 ^ 16 % 256 ∷ x / 2 ^ 8 % 256 ∷ x % 256 ∷ []))
 
 abbrev pub loop_types : List LoopType
 loop_types = loop.Forward ∷ loop.BiDirectional ∷ loop.Off ∷ []
@@ -101,7 +101,7 @@ Value type.LoopType = LoopType
 Value type.ExtendedLoopType = ExtendedLoopType
 Value type.FileType = FileType
 Value type.ReferenceType = FileReferenceType
-Value type.BankOrNone = TuningBank
+Value type.BankOrNone = std.Option ℕ
 Value type.Zero = Unit {0}
 Value type.One = Unit {0}
 Value type.Two = Unit {0}
@@ -123,7 +123,7 @@ value type.LoopType x = numbered loop_byte loop_types x
 value type.ExtendedLoopType x = numbered extended_loop_byte extended_loop_types x
 value type.FileType x = map_option spelled (below (2 ^ 32) x)
 value type.ReferenceType x = numbered reference_number_of reference_types x
-value type.BankOrNone x = apart 256 NoBank (λ n. map_option Bank (below (2 ^ 8) n)) x
+value type.BankOrNone x = apart 256 None (λ n. map_option Some (below (2 ^ 8) n)) x
 value type.Zero x = numbered (λ u. 0) (tt ∷ []) x
 value type.One x = numbered (λ u. 1) (tt ∷ []) x
 value type.Two x = numbered (λ u. 2) (tt ∷ []) x

@@ -1,5 +1,5 @@
 // The types of numbers, and whether a number fits one.
-ghost use Rattle.std.specs.Prelude.{◌≡◌, true, ◌∷◌, [], ◌≤◌, eqb, ltb, take};
+ghost use Rattle.std.specs.Prelude.{◌≡◌, true, eqb, ltb};
 ghost use Rattle.util.specs.Pick.{pick};
 ghost use Rattle.numbers_to_message.specs.Values.{signed};
 ghost use Rattle.numbers_to_message.specs.Fits.{fit, fits, is_some};
@@ -116,52 +116,17 @@ pub fn fits_type(t: NumberType, x: u64) -> bool
     }
 }
 
-// Whether the numbers from the third on are one for each of the first so many types, and fit.
-pub fn fits_row(v: &[u64], types: [NumberType; 14], count: usize) -> bool
-    requires { count ≤ 14 }
-    ensures { result ≡ fits (take count types) v.now 2 }
+// Whether the numbers from the third on are one for each type, and fit.
+pub fn fits_row(v: &[u64], types: &[NumberType]) -> bool
+    ensures { result ≡ fits types.now v.now 2 }
 {
-    let mut i = 0;
-    while i < count {
+    for (i, t) in types.iter().enumerate() {
         if v.len() <= i + 2 {
             return false;
         }
-        let t = types[i];
-        if !fits_type(t, v[i + 2]) {
+        if !fits_type(*t, v[i + 2]) {
             return false;
         }
-        i += 1;
     }
-    v.len() <= count + 2
-}
-
-// Whether there are no numbers from the third on.
-pub fn fits_0(v: &[u64]) -> bool
-    ensures { result ≡ fits [] v.now 2 }
-{
-    v.len() <= 2
-}
-
-// Whether the numbers from the third on are one of a type.
-pub fn fits_1(v: &[u64], a: NumberType) -> bool
-    ensures { result ≡ fits (a ∷ []) v.now 2 }
-{
-    let z = NumberType::Zero;
-    fits_row(v, [a, z, z, z, z, z, z, z, z, z, z, z, z, z], 1)
-}
-
-// Whether the numbers from the third on are one of each of two types.
-pub fn fits_2(v: &[u64], a: NumberType, b: NumberType) -> bool
-    ensures { result ≡ fits (a ∷ b ∷ []) v.now 2 }
-{
-    let z = NumberType::Zero;
-    fits_row(v, [a, b, z, z, z, z, z, z, z, z, z, z, z, z], 2)
-}
-
-// Whether the numbers from the third on are one of each of three types.
-pub fn fits_3(v: &[u64], a: NumberType, b: NumberType, c: NumberType) -> bool
-    ensures { result ≡ fits (a ∷ b ∷ c ∷ []) v.now 2 }
-{
-    let z = NumberType::Zero;
-    fits_row(v, [a, b, c, z, z, z, z, z, z, z, z, z, z, z], 3)
+    v.len() <= types.len() + 2
 }

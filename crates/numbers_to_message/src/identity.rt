@@ -2,14 +2,12 @@
 ghost use Rattle.std.specs.Prelude.{◌≡◌, []};
 ghost use Rattle.numbers_to_message.specs.Rows.{one_byte_reply, two_byte_reply};
 ghost use Rattle.numbers_to_message.specs.Table.{find, identity_rows};
-ghost use Rattle.numbers_to_message.specs.Fits.{row_message, row_fits, fits_any, first_message};
+ghost use Rattle.numbers_to_message.specs.Fits.{row_said, said};
 ghost use Rattle.numbers_to_message.specs.Places.{reply_at};
 
-use crate::fit::{NumberType, fits_0, fits_row};
+use crate::fit::{NumberType, fits_row};
 use crate::values::{u8_at, u16_at};
-use messages::system_exclusive::{
-    IdentityReply, ManufacturerID, SoftwareRevision, UniversalNonRealTimeMsg,
-};
+use messages::system_exclusive::{IdentityReply, ManufacturerID, UniversalNonRealTimeMsg};
 
 // The family, member and software revision, with a maker.
 fn reply(id: ManufacturerID, v: &[u64]) -> UniversalNonRealTimeMsg
@@ -19,29 +17,17 @@ fn reply(id: ManufacturerID, v: &[u64]) -> UniversalNonRealTimeMsg
         id,
         family: u16_at(v, 5),
         family_member: u16_at(v, 6),
-        software_revision: SoftwareRevision {
-            first: u8_at(v, 7),
-            second: u8_at(v, 8),
-            third: u8_at(v, 9),
-            fourth: u8_at(v, 10),
-        },
+        software_revision: (u8_at(v, 7), u8_at(v, 8), u8_at(v, 9), u8_at(v, 10)),
     })
 }
 
-// An identity reply of a maker of one byte.
-fn one_byte_reply(v: &[u64]) -> UniversalNonRealTimeMsg
-    ensures { result ≡ row_message one_byte_reply v.now }
-{
-    reply(ManufacturerID::OneByte(u8_at(v, 3)), v)
-}
-
-// Whether the numbers are those of a reply of a maker of one byte.
-fn one_byte_reply_fits(v: &[u64]) -> bool
-    ensures { result ≡ row_fits one_byte_reply v.now }
+// An identity reply of a maker of one byte, where the numbers fit it.
+fn one_byte_reply(v: &[u64]) -> Option<UniversalNonRealTimeMsg>
+    ensures { result ≡ row_said one_byte_reply v.now }
 {
     fits_row(
         v,
-        [
+        &[
             NumberType::Zero,
             NumberType::U8,
             NumberType::Zero,
@@ -51,30 +37,18 @@ fn one_byte_reply_fits(v: &[u64]) -> bool
             NumberType::U8,
             NumberType::U8,
             NumberType::U8,
-            NumberType::Zero,
-            NumberType::Zero,
-            NumberType::Zero,
-            NumberType::Zero,
-            NumberType::Zero,
         ],
-        9,
     )
+    .then_some(reply(ManufacturerID::OneByte(u8_at(v, 3)), v))
 }
 
-// An identity reply of a maker of two bytes.
-fn two_byte_reply(v: &[u64]) -> UniversalNonRealTimeMsg
-    ensures { result ≡ row_message two_byte_reply v.now }
-{
-    reply(ManufacturerID::Extended(u8_at(v, 3), u8_at(v, 4)), v)
-}
-
-// Whether the numbers are those of a reply of a maker of two bytes.
-fn two_byte_reply_fits(v: &[u64]) -> bool
-    ensures { result ≡ row_fits two_byte_reply v.now }
+// An identity reply of a maker of two bytes, where the numbers fit it.
+fn two_byte_reply(v: &[u64]) -> Option<UniversalNonRealTimeMsg>
+    ensures { result ≡ row_said two_byte_reply v.now }
 {
     fits_row(
         v,
-        [
+        &[
             NumberType::One,
             NumberType::U8,
             NumberType::U8,
@@ -84,54 +58,18 @@ fn two_byte_reply_fits(v: &[u64]) -> bool
             NumberType::U8,
             NumberType::U8,
             NumberType::U8,
-            NumberType::Zero,
-            NumberType::Zero,
-            NumberType::Zero,
-            NumberType::Zero,
-            NumberType::Zero,
         ],
-        9,
     )
+    .then_some(reply(ManufacturerID::Extended(u8_at(v, 3), u8_at(v, 4)), v))
 }
 
-// Whether the numbers are those of a reply.
-fn reply_fits(v: &[u64]) -> bool
-    ensures { result ≡ fits_any (find 0x0602 identity_rows []) v.now }
-{
-    if one_byte_reply_fits(v) {
-        return true;
-    }
-    two_byte_reply_fits(v)
-}
-
-// A reply, by the form of its maker.
-fn any_reply(v: &[u64]) -> UniversalNonRealTimeMsg
-    ensures { result ≡ first_message (find 0x0602 identity_rows []) v.now }
-{
-    if one_byte_reply_fits(v) {
-        return one_byte_reply(v);
-    }
-    two_byte_reply(v)
-}
-
-// Whether the numbers are those of a head code.
-pub fn fits(v: &[u64], code: u64) -> bool
-    ensures { result ≡ fits_any (find code identity_rows []) v.now }
+// The identity message of a head code, where the numbers fit it.
+pub fn message(v: &[u64], code: u64) -> Option<UniversalNonRealTimeMsg>
+    ensures { result ≡ said (find code identity_rows []) v.now }
 {
     match code {
-        0x0601 => fits_0(v),
-        0x0602 => reply_fits(v),
-        _ => false,
-    }
-}
-
-// The identity message of a head code.
-pub fn message(v: &[u64], code: u64) -> UniversalNonRealTimeMsg
-    ensures { result ≡ first_message (find code identity_rows []) v.now }
-{
-    match code {
-        0x0601 => UniversalNonRealTimeMsg::IdentityRequest,
-        0x0602 => any_reply(v),
-        _ => UniversalNonRealTimeMsg::EOF,
+        0x0601 => fits_row(v, &[]).then_some(UniversalNonRealTimeMsg::IdentityRequest),
+        0x0602 => one_byte_reply(v).or(two_byte_reply(v)),
+        _ => None,
     }
 }

@@ -8,7 +8,6 @@ use messages::file_dump::FileType;
 use messages::file_reference::FileReferenceType;
 use messages::sample_dump::{ExtendedLoopType, LoopNumber, LoopType};
 use messages::system_exclusive::DeviceID;
-use messages::tuning::{Scale1Byte, Scale2Byte, TuningBank};
 
 // The number at a place, or 0.
 pub fn number_at(v: &[u64], i: usize) -> u64
@@ -114,17 +113,17 @@ pub fn transmitted_loop_at(v: &[u64], i: usize) -> LoopNumber
 }
 
 // The bank at a place: 256 is none.
-pub fn bank_at(v: &[u64], i: usize) -> TuningBank
+pub fn bank_at(v: &[u64], i: usize) -> Option<u8>
     ensures { result ≡ taken type.BankOrNone (get_or v.now i 0) }
 {
     let x = number_at(v, i);
     if x == 256 {
-        return TuningBank::NoBank;
+        return None;
     }
     if x < 256 {
-        return TuningBank::Bank(x as u8);
+        return Some(x as u8);
     }
-    TuningBank::Bank(0)
+    Some(0)
 }
 
 // The loop type at a place.
@@ -171,12 +170,12 @@ fn spelled_of(x: u32) -> FileType
         0x54455854 => FileType::TEXT,
         0x42494E20 => FileType::BIN,
         0x4D414320 => FileType::MAC,
-        _ => FileType::Custom(
+        _ => FileType::Custom([
             (x / 16777216) as u8,
             (x / 65536 % 256) as u8,
             (x / 256 % 256) as u8,
             (x % 256) as u8,
-        ),
+        ]),
     }
 }
 

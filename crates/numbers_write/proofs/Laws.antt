@@ -5,9 +5,10 @@ use mathlib.Core.Bool.{Bool, true, false}
 use mathlib.Core.List.{List, [], ◌∷◌}
 use Prim.Native.Nat.{ℕ, zero, suc, ◌+◌, ◌-◌, ◌^◌, ◌≤◌, ◌<◌}
 use native.Mathlib.Omega.{arith}
-use lib.Dec.{ltb}
-use lib.ListN.{length, get_or, replicate}
-use borrow.Author.Tests.{ltb-true, ltb-false, leb-true, lt-ltb, le-ltb, ne_eqb}
+use lib.Dec.{ltb, eqb}
+use lib.Seq.{get_or-drop}
+use lib.ListN.{length, get_or, drop, replicate, length-drop}
+use borrow.Author.Tests.{ltb-true, ltb-false, leb-true, le-leb, lt-ltb, le-ltb, ne_eqb, eqb-true, eqb-false}
 use Rattle.util.proofs.Laws.Options.{false_true}
 use Rattle.util.specs.Pick.{pick}
 use Rattle.messages.proofs.Walk.{bool_cases}
@@ -21,11 +22,12 @@ use Rattle.messages.specs.declared.system_exclusive.DeviceID.{DeviceID}
 use Rattle.messages.specs.declared.system_exclusive.UniversalNonRealTimeMsg.{UniversalNonRealTimeMsg}
 use Rattle.messages.specs.Messages.{write_of}
 use Rattle.messages.specs.MessageOf.{message_of}
-use Rattle.numbers_to_message.specs.declared.Made.{Made}
-use Rattle.numbers_to_message.specs.declared.Made.TheVariants.{Message, Malformed}
-use Rattle.writer.specs.declared.Written.{Written}
+use Rattle.numbers_to_message.specs.Types.{Made}
+use Rattle.std.specs.Prelude.{Some, None, Result, Ok, Err}
+use Rattle.util.specs.declared.refusal.Refusal.{Refusal}
+use Rattle.numbers_write.specs.declared.WriteError.TheVariants.{NoMessage}
 use Rattle.writer.specs.Write.{written_at, written_number, written_value, output_after}
-use Rattle.numbers_write.specs.Write.{made_number, made_value, made_output, write_number, write_value, write_output}
+use Rattle.numbers_write.specs.Write.{as_answer, answer_number, answer_value, made_answer, made_number, made_value, made_output, write_answer, write_number, write_value, write_output}
 use Rattle.numbers_write.specs.Whole.{is_message, device_in, message_in}
 
 either : (b : Bool) → false ≡ pick b false false
@@ -110,50 +112,84 @@ other_length v ts q n = ⊎_elim
     (bool_cases (fits ts v 2))))
     (bool_cases (ltb (length v) 2))
 
--- ---- the loop over numbers of one type
+-- ---- numbers of one type, to the last
 
-same_type : (n : ℕ) (t : NumberType) → 0 < n → replicate n t ≡ t ∷ replicate (n - 1) t
-same_type zero t h = absurd (omega arith)
-same_type (suc n) t h = let e : suc n - 1 ≡ n = omega arith in rw e
+module _ (v : List ℕ) (t : NumberType) where
+  each_fits : (n i : ℕ) → i + n ≡ length v → ((k : ℕ) → i ≤ k → k < length v → fit t (get_or v k 0) ≡ true) → fits (replicate n t) v i ≡ true
+  each_fits zero i e h = rw (le-leb (length v) i (omega arith))
+  each_fits (suc n) i e h =
+      rw (lt-ltb i (length v) (omega arith), h i (omega arith) (omega arith)) (each_fits n (suc i) (omega arith) (λ k a b. h k (omega arith) b))
 
-module _ (v : List ℕ) (t : NumberType) (n i : ℕ) (h : 0 < n) where
-  pub same_misfit : fit t (get_or v i 0) ≡ false → i < length v → false ≡ fits (replicate n t) v i
-  same_misfit e s = rw (same_type n t h, lt-ltb _ _ s, e)
+  one_misfits : (n i k : ℕ) → i + n ≡ length v → i ≤ k → k < length v → fit t (get_or v k 0) ≡ false → fits (replicate n t) v i ≡ false
+  one_misfits zero i k e a b f = absurd (omega arith)
+  one_misfits (suc n) i k e a b f = ⊎_elim
+      (λ (q : eqb i k ≡ true). let z : i ≡ k = eqb-true i k q in rw (lt-ltb i (length v) (omega arith), z, f))
+      (λ (q : eqb i k ≡ false).
+      let z : i ≡ k → ⊥ = eqb-false i k q in
+      rw (lt-ltb i (length v) (omega arith), one_misfits n (suc i) k (omega arith) (omega arith) b f) (sym (either (fit t (get_or v i 0)))))
+      (bool_cases (eqb i k))
 
-  pub same_fit : (m j : ℕ) → m ≡ n - 1 → j ≡ suc i → fit t (get_or v i 0) ≡ true → i < length v → fits (replicate m t) v j ≡ fits (replicate n t) v i
-  same_fit m j k q e s = rw (k, q, same_type n t h, lt-ltb _ _ s, e)
-
--- none is left of sixteen
-pub none_left : (v : List ℕ) (i : ℕ) → i ≡ 16 → length v ≡ 16 → true ≡ fits (replicate (16 - i) type.I16) v i
-none_left v i e n = rw (e, n)
+  -- the answer of a test of each number of a slice, those from a place on
+  pub all_fit : (n i : ℕ) (r : Bool) (s : List ℕ) → s ≡ drop i v → i + n ≡ length v → (r ≡ true → (k : ℕ) → k < length s → fit t (get_or s k 0) ≡ true)
+      → (r ≡ false → (k : ℕ) × (k < length s) × (fit t (get_or s k 0) ≡ false)) → r ≡ fits (replicate n t) v i
+  all_fit n i true s q e h g =
+      sym (each_fits n i e (λ k a b.
+      let z : i + (k - i) ≡ k = omega arith in
+      let w : get_or s (k - i) 0 ≡ get_or v k 0 = ap (λ (l : List ℕ). get_or l (k - i) 0) q ∙ get_or-drop i v (k - i) 0 ∙ ap (λ (j : ℕ). get_or v j 0) z in
+      rw w at (h refl (k - i) (omega (arith, ap length q, length-drop i v)))))
+  all_fit n i false s q e h g =
+      let x = g refl in
+      let w : get_or s x.0 0 ≡ get_or v (i + x.0) 0 = ap (λ (l : List ℕ). get_or l x.0 0) q ∙ get_or-drop i v x.0 0 in
+      sym (one_misfits n i (i + x.0) e (omega arith) (omega (arith, x.1, ap length q, length-drop i v)) (rw w at x.2))
 
 -- ---- what is answered
 
 module _ (v text entries out : List ℕ) (place : ℕ) where
   -- a message was written, or refused
-  pub wrote : (d : DeviceID) (m : UniversalNonRealTimeMsg) → message_of_numbers v ≡ Message d m → (a b : Written) (out' : List ℕ) → a ≡ b
-      → a ≡ written_at (write_of (message_of d m text entries)) (length out) place → out' ≡ output_after (write_of (message_of d m text entries)) out place
-      → (written_number b ≡ write_number v text entries out place) × ((written_value b ≡ write_value v text entries out place) × (out' ≡ write_output v text entries out place))
-  wrote d m e a b out' q p o = (
-    ap written_number (sym q ∙ p) ∙ ap (λ (x : Made). made_number x text entries out place) (sym e),
-    (
-      ap written_value (sym q ∙ p) ∙ ap (λ (x : Made). made_value x text entries out place) (sym e),
-      o ∙ ap (λ (x : Made). made_output x text entries out place) (sym e),
-    ),
+  pub wrote : (d : DeviceID) (m : UniversalNonRealTimeMsg) → message_of_numbers v ≡ Some (d, m) → (w : Result ℕ Refusal) (out' : List ℕ)
+      → w ≡ written_at (write_of (message_of d m text entries)) (length out) place → out' ≡ output_after (write_of (message_of d m text entries)) out place
+      → (as_answer w ≡ write_answer v text entries out place) × (out' ≡ write_output v text entries out place)
+  wrote d m e w out' p o = (
+    ap as_answer p ∙ ap (λ (x : Made). made_answer x text entries out place) (sym e),
+    o ∙ ap (λ (x : Made). made_output x text entries out place) (sym e),
   )
 
   -- the numbers are no message
-  pub unwritten : message_of_numbers v ≡ Malformed → (64 ≡ write_number v text entries out place) × ((0 ≡ write_value v text entries out place) × (out ≡ write_output v text entries out place))
+  pub unwritten : message_of_numbers v ≡ None → (Err NoMessage ≡ write_answer v text entries out place) × (out ≡ write_output v text entries out place)
   unwritten e = (
-    ap (λ (x : Made). made_number x text entries out place) (sym e),
-    (ap (λ (x : Made). made_value x text entries out place) (sym e), ap (λ (x : Made). made_output x text entries out place) (sym e)),
+    ap (λ (x : Made). made_answer x text entries out place) (sym e),
+    ap (λ (x : Made). made_output x text entries out place) (sym e),
   )
+
+-- the number and the value of what is answered
+number_by : (w : Result ℕ Refusal) → answer_number (as_answer w) ≡ written_number w
+number_by (Ok n) = refl
+number_by (Err r) = refl
+
+value_by : (w : Result ℕ Refusal) → answer_value (as_answer w) ≡ written_value w
+value_by (Ok n) = refl
+value_by (Err r) = refl
+
+module _ (text entries out : List ℕ) (place : ℕ) where
+  made_number_is : (x : Made) → answer_number (made_answer x text entries out place) ≡ made_number x text entries out place
+  made_number_is (Some x) = number_by (written_at (write_of (message_of x.0 x.1 text entries)) (length out) place)
+  made_number_is None = refl
+
+  made_value_is : (x : Made) → answer_value (made_answer x text entries out place) ≡ made_value x text entries out place
+  made_value_is (Some x) = value_by (written_at (write_of (message_of x.0 x.1 text entries)) (length out) place)
+  made_value_is None = refl
+
+  pub number_is : (v : List ℕ) → answer_number (write_answer v text entries out place) ≡ write_number v text entries out place
+  number_is v = made_number_is (message_of_numbers v)
+
+  pub value_is : (v : List ℕ) → answer_value (write_answer v text entries out place) ≡ write_value v text entries out place
+  value_is v = made_value_is (message_of_numbers v)
 
 -- the numbers of a head code that are a message, and those that are none
 module _ (v : List ℕ) where
-  pub made_by : (k : ℕ) → get_or v 0 0 ≡ k → is_message v ≡ true → message_of_numbers v ≡ Message (device_in v) (first_message (rows_of k) v)
+  pub made_by : (k : ℕ) → get_or v 0 0 ≡ k → is_message v ≡ true → message_of_numbers v ≡ Some (device_in v, first_message (rows_of k) v)
   made_by k q e =
-      message_is v ∙ ap (λ (b : Bool). message_if b (device_in v) (message_in v)) e ∙ ap (λ (j : ℕ). Message (device_in v) (first_message (rows_of j) v)) q
+      message_is v ∙ ap (λ (b : Bool). message_if b (device_in v) (message_in v)) e ∙ ap (λ (j : ℕ). Some (device_in v, first_message (rows_of j) v)) q
 
-  pub made_not : is_message v ≡ false → message_of_numbers v ≡ Malformed
+  pub made_not : is_message v ≡ false → message_of_numbers v ≡ None
   made_not e = message_is v ∙ ap (λ (b : Bool). message_if b (device_in v) (message_in v)) e

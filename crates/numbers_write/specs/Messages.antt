@@ -1,10 +1,9 @@
 -- The messages that are written from their fields, with no message made of them.
-use Rattle.std.specs.Prelude.{List, [], ℕ}
+use Rattle.std.specs.Prelude.{List, [], ℕ, ℤ}
 use Rattle.messages.specs.declared.system_exclusive.DeviceID.{DeviceID}
 use Rattle.messages.specs.declared.system_exclusive.UniversalNonRealTimeMsg.TheVariants as msg
 use Rattle.messages.specs.declared.sample_dump.LoopType.{LoopType}
 use Rattle.messages.specs.declared.sample_dump.SampleDumpMsg.TheVariants as sample
-use Rattle.messages.specs.declared.tuning.Scale2Byte.{Scale2Byte}
 use Rattle.messages.specs.Messages.{Message}
 use Rattle.messages.specs.MessageOf.{message_of}
 
@@ -17,6 +16,6 @@ abbrev pub packet_message : DeviceID → ℕ → List ℕ → Message
 packet_message d c text = message_of d (msg.SampleDump (sample.Packet c)) text []
 
 -- a scale tuning dump of two bytes
-abbrev pub scale_message : DeviceID → ℕ → ℕ → Scale2Byte → List ℕ → Message
+abbrev pub scale_message : DeviceID → ℕ → ℕ → List ℤ → List ℕ → Message
 scale_message d b p s text =
     message_of d (msg.ScaleTuningDump2Byte (record { tuning_bank_num = b; tuning_program_num = p; tuning = s })) text []

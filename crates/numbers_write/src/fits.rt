@@ -7,6 +7,7 @@ ghost use Rattle.numbers_write.specs.Whole.{is_message, OneByte};
 use numbers_to_message::fit::{is_i16, is_loop_type};
 
 // Whether the numbers of a sample dump header are a message.
+// Kept as a test for each number: by a row of types they took 17 ns of a header's 27 (docs/SPEED.md).
 pub fn is_header(v: &[u64]) -> bool
     requires { get_or v.now 0 0 ≡ 0x0100 }
     ensures { result ≡ is_message v.now }
@@ -57,14 +58,7 @@ fn are_i16(v: &[u64]) -> bool
     requires { length v.now ≡ 16 }
     ensures { result ≡ fits (replicate 12 type.I16) v.now 4 }
 {
-    let mut i = 4;
-    while i < 16 {
-        if !is_i16(v[i]) {
-            return false;
-        }
-        i += 1;
-    }
-    true
+    v[4..].iter().all(|x| is_i16(*x))
 }
 
 // Whether the numbers of a scale tuning dump of two bytes are a message.

@@ -11,7 +11,7 @@ ghost use Rattle.numbers_write.specs.Messages.{header_message, packet_message};
 use messages::sample_dump::{LoopType, SampleDumpMsg};
 use messages::system_exclusive::DeviceID;
 use util::refusal::Refusal;
-use writer::Written;
+use writer::has_room;
 
 // Writes the frame of a sample dump header.
 fn put_header(
@@ -30,7 +30,7 @@ fn put_header(
 {
     out[0] = 0xF0;
     let f = write_fronts::values::clamp(format as u64, 8, 28);
-    let t = messages::sample_dump::loop_byte(kind);
+    let t = u8::from(kind) as u64;
     write_fronts::sample_dump::put_header(
         &mut out[1..],
         d,
@@ -59,17 +59,14 @@ pub fn write_header(
     kind: LoopType,
     out: &mut [u8],
     place: usize,
-) -> Written
+) -> Result<usize, Refusal>
     ensures { (result ≡ written_at (write_of (header_message device sample format period len start end kind)) (length out.old) place)
         × (out.new ≡ output_after (write_of (header_message device sample format period len start end kind)) out.old place) }
 {
-    if out.len() < place {
-        return Written::Refused(Refusal::Space);
+    if !has_room(out.len(), place, 21) {
+        return Err(Refusal::Space);
     }
-    if out.len() - place < 21 {
-        return Written::Refused(Refusal::Space);
-    }
-    let d = messages::system_exclusive::device_byte(device);
+    let d = u8::from(device) as u64;
     put_header(
         &mut out[place..],
         d,
@@ -81,7 +78,7 @@ pub fn write_header(
         end,
         kind,
     );
-    Written::Frame(21)
+    Ok(21)
 }
 
 // Writes the frame of a sample dump packet.
@@ -104,17 +101,14 @@ pub fn write_packet(
     text: &[u8],
     out: &mut [u8],
     place: usize,
-) -> Written
+) -> Result<usize, Refusal>
     ensures { (result ≡ written_at (write_of (packet_message device count text.now)) (length out.old) place)
         × (out.new ≡ output_after (write_of (packet_message device count text.now)) out.old place) }
 {
-    if out.len() < place {
-        return Written::Refused(Refusal::Space);
+    if !has_room(out.len(), place, 127) {
+        return Err(Refusal::Space);
     }
-    if out.len() - place < 127 {
-        return Written::Refused(Refusal::Space);
-    }
-    let d = messages::system_exclusive::device_byte(device);
+    let d = u8::from(device) as u64;
     put_packet(&mut out[place..], d, count, text);
-    Written::Frame(127)
+    Ok(127)
 }

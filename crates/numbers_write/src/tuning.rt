@@ -11,39 +11,35 @@ ghost use Rattle.writer.specs.Frames.{wire};
 ghost use Rattle.numbers_write.specs.Messages.{scale_message};
 
 use messages::system_exclusive::DeviceID;
-use messages::tuning::Scale2Byte;
 use util::refusal::Refusal;
-use writer::Written;
+use writer::has_room;
 
 // Writes the frame of a scale tuning dump of two bytes at a place of the output.
 pub fn write_scale_dump_2(
     device: DeviceID,
     bank: u8,
     program: u8,
-    s: Scale2Byte,
+    s: [i16; 12],
     text: &[u8],
     out: &mut [u8],
     place: usize,
-) -> Written
+) -> Result<usize, Refusal>
     ensures { (result ≡ written_at (write_of (scale_message device bank program s text.now)) (length out.old) place)
         × (out.new ≡ output_after (write_of (scale_message device bank program s text.now)) out.old place) }
 {
     if !util::bytes::is_seven(text) {
-        return Written::Refused(Refusal::High);
+        return Err(Refusal::High);
     }
-    if out.len() < place {
-        return Written::Refused(Refusal::Space);
+    if !has_room(out.len(), place, 49) {
+        return Err(Refusal::Space);
     }
-    if out.len() - place < 49 {
-        return Written::Refused(Refusal::Space);
-    }
-    let d = messages::system_exclusive::device_byte(device);
+    let d = u8::from(device) as u64;
     put_scale_dump_2(&mut out[place..], d, bank, program, s, text);
-    Written::Frame(49)
+    Ok(49)
 }
 
 // Writes the frame of a scale tuning dump of two bytes.
-fn put_scale_dump_2(out: &mut [u8], d: u64, bank: u8, program: u8, s: Scale2Byte, text: &[u8])
+fn put_scale_dump_2(out: &mut [u8], d: u64, bank: u8, program: u8, s: [i16; 12], text: &[u8])
     requires { 49 ≤ length out.old }
     ensures { out.new ≡ overwritten (wire true (start_2 d 0x08 0x06 ((1, bank) ∷ (1, program) ∷ []) ++ (written name_of_16 text.now ++ written scale_2 s))) out.old }
 {

@@ -13,11 +13,10 @@ use Rattle.messages.specs.Messages.{Message, Answer, given, read_of}
 use Rattle.messages.specs.MessageOf.{message_of}
 use Rattle.messages.specs.Promises.{IsFrame}
 use Rattle.messages.proofs.Exact.{read_exactly}
-use Rattle.numbers_to_message.specs.declared.Made.{Made}
+use Rattle.numbers_to_message.specs.Types.{Made}
 use Rattle.numbers_to_message.specs.Table.{message_of_numbers}
 use Rattle.read_places.specs.Found.{text_from}
 use Rattle.reader.specs.declared.lent.Reading.{Reading}
-use Rattle.reader.specs.declared.lent.Reading.TheVariants.{Frame, Refused}
 use Rattle.reader.specs.Reading.{reading_number, ReadMet}
 use Rattle.reader.proofs.Promises.{gives_exactly, gives_part}
 use Rattle.numbers_of_message.specs.Numbers.{numbers_of}
@@ -27,7 +26,8 @@ use Rattle.writer.specs.Write.{written_at, written_number, written_value, output
 use Rattle.numbers_read.specs.Read.{reading_numbers}
 use Rattle.numbers_read.proofs.Promises.{one_read_for}
 use Rattle.numbers_write.specs.Write.{made_number, made_value, made_output}
-use Rattle.pasoreum.specs.declared.kinds.Named.TheVariants as named
+use Rattle.std.specs.Prelude.{Some, None, Result, Ok, Err}
+use Rattle.util.specs.declared.refusal.Refusal.{Refusal}
 use Rattle.pasoreum.specs.Read.{Kept}
 use Rattle.pasoreum.specs.Promises.{places_in, Says, text_said, message_said, NumbersRead, PartNamed, TextRead, WrittenAgain, OneRead}
 
@@ -36,11 +36,13 @@ abbrev Representable : Kind → List ℕ → List ℕ → List ℕ → List ℕ 
 Representable k frame dat es a = (s : Says frame dat es a) × ((read_of k frame ≡ given (message_said s)) × IsFrame (message_said s) frame)
 
 module _ (k : Kind) (frame dat dat' es es' answer : List ℕ) where
-  representable : (r : Reading) → ReadMet r (read_of k frame) frame dat dat' es es' → 0 ≡ reading_number r → Representable k frame dat' es' (overwritten (reading_numbers r) answer)
-  representable (Refused r) h e = absurd (omega (arith, number_some r))
-  representable (Frame d m from len places) h e =
-      let x = message_of d m (text_from m (take len (drop from frame)) (take places dat')) (take places es') in
-      let g = (gives_exactly k (Frame d m from len places) frame dat dat' es es' x h).0 refl in
+  representable : (r : Result Reading Refusal) → ReadMet r (read_of k frame) frame dat dat' es es' → 0 ≡ reading_number r → Representable k frame dat' es' (overwritten (reading_numbers r) answer)
+  representable (Err r) h e = absurd (omega (arith, number_some r))
+  representable (Ok a) h e =
+      let d = a.device in
+      let m = a.m in
+      let x = message_of d m (text_from m (take a.len (drop a.from frame)) (take a.places dat')) (take a.places es') in
+      let g = (gives_exactly k (Ok a) frame dat dat' es es' x h).0 refl in
       let n = take_at (numbers_of d m) (drop (suc (suc (suc (suc (length (numbers_of d m)))))) answer) (length (numbers_of d m)) refl in (
         record { device = d; m = m; numbers_say = ap message_of_numbers n ∙ numbers_back d m (settled_representable d m _ _ g.0.settled) },
         ((read_exactly k frame x).1 (g.0, g.1), g.1),
@@ -51,13 +53,14 @@ numbers_read k frame dat dat' es es' answer answer' f =
     subst (Representable k frame dat' es') (sym f.answer_is) (representable k frame dat dat' es es' answer f.reading f.met f.number_is)
 
 module _ (k : Kind) (frame dat dat' es es' answer : List ℕ) (m : Message) (g : read_of k frame ≡ given m) where
-  part_named : (r : Reading) → ReadMet r (read_of k frame) frame dat dat' es es' → 0 ≡ reading_number r → PartNamed frame (overwritten (reading_numbers r) answer) m
-  part_named (Refused r) h e = absurd (omega (arith, number_some r))
-  part_named (Frame d c from len n) h e =
-      let x = message_of d c (text_from c (take len (drop from frame)) (take n dat')) (take n es') in
-      let r = (gives_exactly k (Frame d c from len n) frame dat dat' es es' x h).0 refl in
+  part_named : (r : Result Reading Refusal) → ReadMet r (read_of k frame) frame dat dat' es es' → 0 ≡ reading_number r → PartNamed frame (overwritten (reading_numbers r) answer) m
+  part_named (Err r) h e = absurd (omega (arith, number_some r))
+  part_named (Ok a) h e =
+      let c = a.m in
+      let x = message_of a.device c (text_from c (take a.len (drop a.from frame)) (take a.places dat')) (take a.places es') in
+      let r = (gives_exactly k (Ok a) frame dat dat' es es' x h).0 refl in
       let i : given x ≡ given m = sym ((read_exactly k frame x).1 (r.0, r.1)) ∙ g in
-      let p = gives_part k (Frame d c from len n) frame dat dat' es es' m h i in
+      let p = gives_part k (Ok a) frame dat dat' es es' m h i in
       let q = p.0 in
       record { start_is = cc; length_is = cc; places_are = cc; stands = p.1 }
 
@@ -91,7 +94,7 @@ kept_once w v =
     (w.number_is ∙ sym v.number_is, w.data_is ∙ sym v.data_is, w.entries_are ∙ sym v.entries_are, w.answer_is ∙ sym v.answer_is)
 
 pub one_read : OneRead
-one_read named.Neither short n m frame dat dat' dat'' es es' es'' answer answer' answer'' w v = kept_once w v
-one_read (named.Kind k) true n m frame dat dat' dat'' es es' es'' answer answer' answer'' w v = kept_once w v
-one_read (named.Kind k) false n m frame dat dat' dat'' es es' es'' answer answer' answer'' w v =
+one_read None short n m frame dat dat' dat'' es es' es'' answer answer' answer'' w v = kept_once w v
+one_read (Some k) true n m frame dat dat' dat'' es es' es'' answer answer' answer'' w v = kept_once w v
+one_read (Some k) false n m frame dat dat' dat'' es es' es'' answer answer' answer'' w v =
     one_read_for k n m frame dat dat' dat'' es es' es'' answer answer' answer'' w v

@@ -1,17 +1,17 @@
 -- What identity reading answers in numbers: as `from_midi` does, or 66 for an answer of fewer than nine places.
-use Rattle.std.specs.Prelude.{List, [], ◌++◌, ℕ, ltb, length}
+use Rattle.std.specs.Prelude.{List, [], ◌++◌, ℕ, ltb, length, Result, Ok, Err}
 use Rattle.util.specs.Pick.{pick}
 use Rattle.util.specs.Splice.{overwritten}
-use Rattle.messages.specs.declared.system_exclusive.IdentityReading.{IdentityReading}
-use Rattle.messages.specs.declared.system_exclusive.IdentityReading.TheVariants.{Reply, Refused}
+use Rattle.messages.specs.declared.system_exclusive.IdentityReply.{IdentityReply}
+use Rattle.util.specs.declared.refusal.Refusal.{Refusal}
 use Rattle.messages.specs.Identity.{identity_of}
 use Rattle.messages.specs.Identity as reading
 use Rattle.numbers_of_message.specs.Numbers.{field_numbers, maker, after_maker}
 
 -- "maker form, m1, m2, family, member, r1 to r4"
-abbrev pub reply_numbers : IdentityReading → List ℕ
-reply_numbers (Reply r) = field_numbers (maker r.id ++ after_maker r)
-reply_numbers (Refused r) = []
+abbrev pub reply_numbers : Result IdentityReply Refusal → List ℕ
+reply_numbers (Ok r) = field_numbers (maker r.id ++ after_maker r)
+reply_numbers (Err r) = []
 
 -- the number of the refusal, 0 for none
 abbrev pub identity_number : List ℕ → List ℕ → ℕ

@@ -1,18 +1,16 @@
 -- What the boundary promises, as propositions over the contract of `pasoreum_read`: the theorems of proofs/ have these types.
-use Rattle.std.specs.Prelude.{◌≡◌, Bool, List, ℕ, length, take, drop, get_or}
+use Rattle.std.specs.Prelude.{◌≡◌, Bool, List, ℕ, Option, Some, length, take, drop, get_or}
 use Rattle.messages.specs.declared.file_reference.Kind.{Kind}
 use Rattle.messages.specs.declared.system_exclusive.DeviceID.{DeviceID}
 use Rattle.messages.specs.declared.system_exclusive.UniversalNonRealTimeMsg.{UniversalNonRealTimeMsg}
 use Rattle.messages.specs.Messages.{Message, given, read_of, text, text_start, places}
 use Rattle.messages.specs.MessageOf.{message_of}
 use Rattle.messages.specs.Promises.{IsFrame, TextStands}
-use Rattle.numbers_to_message.specs.declared.Made.TheVariants as made
 use Rattle.numbers_to_message.specs.Table.{message_of_numbers}
 use Rattle.read_places.specs.Found.{text_from}
 use Rattle.writer.specs.Write.{written_at, written_number, written_value, output_after}
 use Rattle.numbers_read.specs.Read.{ReadFor}
 use Rattle.numbers_write.specs.Write.{write_number, write_value, write_output}
-use Rattle.pasoreum.specs.declared.kinds.Named.{Named}
 use Rattle.pasoreum.specs.Read.{ReadAs}
 
 -- the message's numbers in an answer
@@ -31,7 +29,7 @@ places_in lent a = take (get_or a 3 0) lent
 pub record Says (frame dat es a : List ℕ) : Type 0 where
   pub device : DeviceID
   pub m : UniversalNonRealTimeMsg
-  pub numbers_say : message_of_numbers (numbers_in a) ≡ made.Message device m
+  pub numbers_say : message_of_numbers (numbers_in a) ≡ Some (device, m)
 
 abbrev pub text_said : {frame dat es a : List ℕ} → Says frame dat es a → List ℕ
 text_said {frame} {dat} {es} {a} s = text_from s.m (named_text frame a) (places_in dat a)
@@ -70,6 +68,6 @@ WrittenAgain =
 -- a call of `pasoreum_read` has one answer, and one way in which it leaves what it was lent
 abbrev pub OneRead : Type 0
 OneRead =
-    (k : Named) (short : Bool) (n m : ℕ) (frame dat dat' dat'' es es' es'' answer answer' answer'' : List ℕ)
+    (k : Option Kind) (short : Bool) (n m : ℕ) (frame dat dat' dat'' es es' es'' answer answer' answer'' : List ℕ)
     → ReadAs k short n frame dat dat' es es' answer answer' → ReadAs k short m frame dat dat'' es es'' answer answer''
     → (n ≡ m) × (dat' ≡ dat'') × (es' ≡ es'') × (answer' ≡ answer'')

@@ -11,13 +11,18 @@ ghost use Rattle.rates.specs.Cents.{cents_of};
 ghost use Rattle.util.specs.Channels.{how_many, lowest};
 ghost use Rattle.pasoreum.specs.Kinds.{kind_of};
 ghost use Rattle.numbers_write.specs.Write.{write_number, write_value, write_output};
+ghost use Rattle.numbers_read.specs.Read.{read_number};
 ghost use Rattle.pasoreum.specs.Read.{ReadAs};
 ghost use Rattle.pasoreum.specs.Walk.{walk_number, walk_value, walk_index};
 ghost use Rattle.pasoreum.specs.Identity.{identity_number, identity_answer};
 
-use kinds::Named;
-use messages::system_exclusive::{IdentityReading, UniversalNonRealTimeMsg};
-use rates::SplitAnswer;
+use messages::system_exclusive::UniversalNonRealTimeMsg;
+use util::refusal::Refusal;
+
+// The refusals of the boundary's own: a kind that is neither, and an answer without room. Kept as numbers: C gets a number.
+const NO_KIND: u32 = 65;
+
+const NO_ROOM: u32 = 66;
 
 // Writes the frame of a message at a place of the output; the value is the frame's length.
 #[unsafe(no_mangle)]
@@ -33,7 +38,26 @@ pub extern "C" fn pasoreum_write(
     ensures value { value.new ≡ write_value numbers.now text.now entries.now out.old place }
     ensures output { out.new ≡ write_output numbers.now text.now entries.now out.old place }
 {
-    numbers_write::write(numbers, text, entries, out, place, value)
+    match numbers_write::write(numbers, text, entries, out, place) {
+        Ok(n) => {
+            *value = n as u64;
+            0
+        }
+        Err(e) => {
+            *value = 0;
+            e.number()
+        }
+    }
+}
+
+// The number of what reading answers.
+fn told(read: Result<(), Refusal>) -> u32
+    ensures { result ≡ read_number read }
+{
+    match read {
+        Ok(()) => 0,
+        Err(r) => u32::from(r.number()),
+    }
 }
 
 // Reads a frame for a kind of sound file, 0 bank, 1 WAV: its file data and entries into lent places, its numbers into the answer.
@@ -48,12 +72,12 @@ pub extern "C" fn pasoreum_read(
     ensures { ReadAs (kind_of kind) (ltb (length answer.old) 20) result frame.now «data».old «data».new entries.old entries.new answer.old answer.new }
 {
     match kinds::kind_of(kind) {
-        Named::Kind(k) => if answer.len() < 20 {
-            66
+        Some(k) => if answer.len() < 20 {
+            NO_ROOM
         } else {
-            numbers_read::read_for(frame, k, data, entries, answer)
+            told(numbers_read::read_for(frame, k, data, entries, answer))
         },
-        Named::Neither => 65,
+        None => NO_KIND,
     }
 }
 
@@ -65,10 +89,10 @@ pub extern "C" fn pasoreum_walk(stream: &[u8], kind: u32, index: &mut [u32], val
     ensures output { index.new ≡ walk_index (kind_of kind) stream.now index.old }
 {
     match kinds::kind_of(kind) {
-        Named::Kind(k) => walking::walk_for(stream, k, index, value),
-        Named::Neither => {
+        Some(k) => walking::walk_for(stream, k, index, value),
+        None => {
             *value = 0;
-            65
+            NO_KIND
         }
     }
 }
@@ -80,14 +104,14 @@ pub extern "C" fn pasoreum_identity(bytes: &[u8], answer: &mut [u64]) -> u32
     ensures output { answer.new ≡ identity_answer bytes.now answer.old }
 {
     if answer.len() < 9 {
-        return 66;
+        return NO_ROOM;
     }
     match UniversalNonRealTimeMsg::from_midi(bytes) {
-        IdentityReading::Reply(reply) => {
+        Ok(reply) => {
             identity::put_reply(answer, reply);
             0
         }
-        IdentityReading::Refused(r) => r.number() as u32,
+        Err(r) => u32::from(r.number()),
     }
 }
 
@@ -97,18 +121,15 @@ pub extern "C" fn pasoreum_split_rate(rate: f64, whole: &mut u32, fraction: &mut
     ensures { (result ≡ (numbers_of (split_of rate)).number) × ((whole.new ≡ (numbers_of (split_of rate)).whole) × (fraction.new ≡ (numbers_of (split_of rate)).fraction)) }
 {
     match rates::split_rate(rate) {
-        SplitAnswer::Pair {
-            whole: w,
-            fraction: f,
-        } => {
-            *whole = w;
-            *fraction = f;
+        Ok(pair) => {
+            *whole = pair.whole;
+            *fraction = pair.fraction;
             0
         }
-        SplitAnswer::Refused(r) => {
+        Err(r) => {
             *whole = 0;
             *fraction = 0;
-            r.number() as u32
+            u32::from(r.number())
         }
     }
 }

@@ -9,7 +9,7 @@ pub returns-in-ExtendedSampleDump : goal.returns-in-ExtendedSampleDump
 returns-in-ExtendedSampleDump c = rw c.in-ExtendedSampleDump.is c.put_message-in-ExtendedSampleDump.ensures
 
 pub returns-in-IdentityRequest : goal.returns-in-IdentityRequest
-returns-in-IdentityRequest c = rw c.in-IdentityRequest.is c.put_0.ensures
+returns-in-IdentityRequest c = rw c.in-IdentityRequest.is c.put.ensures
 
 pub returns-in-IdentityReply : goal.returns-in-IdentityReply
 returns-in-IdentityReply c = rw c.in-IdentityReply.is c.put_reply.ensures
@@ -45,16 +45,16 @@ pub returns-in-FileReference : goal.returns-in-FileReference
 returns-in-FileReference c = rw c.in-FileReference.is c.put_message-in-FileReference.ensures
 
 pub returns-in-EOF : goal.returns-in-EOF
-returns-in-EOF c = rw c.in-EOF.is c.put_0-in-EOF.ensures
+returns-in-EOF c = rw c.in-EOF.is c.put-in-EOF.ensures
 
 pub returns-in-Wait : goal.returns-in-Wait
-returns-in-Wait c = rw c.in-Wait.is c.put_0-in-Wait.ensures
+returns-in-Wait c = rw c.in-Wait.is c.put-in-Wait.ensures
 
 pub returns-in-Cancel : goal.returns-in-Cancel
-returns-in-Cancel c = rw c.in-Cancel.is c.put_0-in-Cancel.ensures
+returns-in-Cancel c = rw c.in-Cancel.is c.put-in-Cancel.ensures
 
 pub returns-in-NAK : goal.returns-in-NAK
-returns-in-NAK c = rw c.in-NAK.is c.put_1.ensures
+returns-in-NAK c = rw c.in-NAK.is c.put-in-NAK.ensures
 
 pub returns-in-ACK : goal.returns-in-ACK
-returns-in-ACK c = rw c.in-ACK.is c.put_1-in-ACK.ensures
+returns-in-ACK c = rw c.in-ACK.is c.put-in-ACK.ensures

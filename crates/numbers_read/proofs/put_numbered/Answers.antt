@@ -31,4 +31,4 @@ bounds-answer-6 c = simp length-set (omega arith)
 pub returns : goal.returns
 returns c = let l = c.args.answer.now in
     sets_front (3 ∷ 0 ∷ 0 ∷ 0 ∷ c.args.code ∷ c.device_number-d.result ∷ c.args.packet ∷ []) l (omega (arith, c.requires))
-    ∙ ap (λ (v : ℕ). overwritten (3 ∷ 0 ∷ 0 ∷ 0 ∷ c.args.code ∷ v ∷ c.args.packet ∷ []) l) (c.device_number-d.ensures ∙ ap device_number_of c.device_of.ensures)
+    ∙ ap (λ (v : ℕ). overwritten (3 ∷ 0 ∷ 0 ∷ 0 ∷ c.args.code ∷ v ∷ c.args.packet ∷ []) l) (c.device_number-d.ensures ∙ ap device_number_of c.from.ensures)

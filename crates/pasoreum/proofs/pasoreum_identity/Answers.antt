@@ -9,14 +9,14 @@ pub returns-then-answer-lt9 : goal.returns-then-answer-lt9
 returns-then-answer-lt9 c = let t = lt-ltb _ _ c.if-answer-lt9.true in
     record { number = rw t; output = rw t }
 
-pub returns-in-Reply : goal.returns-in-Reply
-returns-in-Reply c =
-    let e = sym c.in-Reply.is ∙ c.from_midi.ensures in
+pub returns-in-Ok : goal.returns-in-Ok
+returns-in-Ok c =
+    let e = sym c.in-Ok.is ∙ c.from_midi.ensures in
     let t = replied c.args.bytes.now c.args.answer.now _ _ _ c.if-answer-lt9.false e c.put_reply.ensures in
     record { number = t.0; output = t.1 }
 
-pub returns-in-Refused : goal.returns-in-Refused
-returns-in-Refused c =
-    let e = sym c.in-Refused.is ∙ c.from_midi.ensures in
-    let t = unreplied c.args.bytes.now c.args.answer.now _ _ c.if-answer-lt9.false e c.number.ensures in
+pub returns-in-Err : goal.returns-in-Err
+returns-in-Err c =
+    let e = sym c.in-Err.is ∙ c.from_midi.ensures in
+    let t = unreplied c.args.bytes.now c.args.answer.now _ _ c.if-answer-lt9.false e (c.from.ensures ∙ c.number.ensures) in
     record { number = t.0; output = t.1 }

@@ -3,16 +3,16 @@
 use Rattle.numbers_of_message.proofs.sample_dump.put_message.Goals as goal
 
 pub returns-in-Header : goal.returns-in-Header
-returns-in-Header c = rw (c.in-Header.is, ← c.loop_byte-t.ensures) c.put_header.ensures
+returns-in-Header c = rw (c.in-Header.is, ← c.from.ensures) c.put.ensures
 
 pub returns-in-Packet : goal.returns-in-Packet
-returns-in-Packet c = rw c.in-Packet.is c.put_1.ensures
+returns-in-Packet c = rw c.in-Packet.is c.put-in-Packet.ensures
 
 pub returns-in-Request : goal.returns-in-Request
-returns-in-Request c = rw c.in-Request.is c.put_1-in-Request.ensures
+returns-in-Request c = rw c.in-Request.is c.put-in-Request.ensures
 
 pub returns-in-LoopPointTransmission : goal.returns-in-LoopPointTransmission
-returns-in-LoopPointTransmission c = rw (c.in-LoopPointTransmission.is, ← c.loop_byte-t-in-LoopPointTransmission.ensures, ← c.loop_index-i.ensures) c.put_5.ensures
+returns-in-LoopPointTransmission c = rw (c.in-LoopPointTransmission.is, ← c.from-in-LoopPointTransmission.ensures, ← c.loop_index.ensures) c.put-in-LoopPointTransmission.ensures
 
 pub returns-in-LoopPointsRequest : goal.returns-in-LoopPointsRequest
-returns-in-LoopPointsRequest c = rw (c.in-LoopPointsRequest.is, ← c.loop_index-i-in-LoopPointsRequest.ensures) c.put_2.ensures
+returns-in-LoopPointsRequest c = rw (c.in-LoopPointsRequest.is, ← c.loop_index-in-LoopPointsRequest.ensures) c.put-in-LoopPointsRequest.ensures

@@ -2,8 +2,8 @@
 -- Assumes nothing.
 use Rattle.numbers_of_message.proofs.tuning.put_banked.Goals as goal
 
-pub returns-in-NoBank : goal.returns-in-NoBank
-returns-in-NoBank c = rw c.in-NoBank.is c.put_1.ensures
+pub returns-in-None : goal.returns-in-None
+returns-in-None c = rw c.in-None.is c.put.ensures
 
-pub returns-in-Bank : goal.returns-in-Bank
-returns-in-Bank c = rw c.in-Bank.is c.put_2.ensures
+pub returns-in-Some : goal.returns-in-Some
+returns-in-Some c = rw c.in-Some.is c.put-in-Some.ensures

@@ -1,16 +1,9 @@
 -- `numbers_to_message::file_reference_open::open_select` meets its contract: each form is a row, in order.
 -- Assumes nothing.
-use Rattle.numbers_to_message.proofs.Laws.{pick_yes, pick_no}
+use Rattle.numbers_to_message.proofs.Laws.{four_said}
 use Rattle.numbers_to_message.proofs.file_reference_open.open_select.Goals as goal
 
-pub returns-then-open_list_fits : goal.returns-then-open_list_fits
-returns-then-open_list_fits c = pick_yes _ c.open_list_fits.ensures c.if-open_list_fits.true c.open_list.ensures
-
-pub returns-then-open_offset_fits : goal.returns-then-open_offset_fits
-returns-then-open_offset_fits c = pick_no _ c.open_list_fits.ensures c.if-open_list_fits.false (pick_yes _ c.open_offset_fits.ensures c.if-open_offset_fits.true c.open_offset.ensures)
-
-pub returns-then-open_wav_fits : goal.returns-then-open_wav_fits
-returns-then-open_wav_fits c = pick_no _ c.open_list_fits.ensures c.if-open_list_fits.false (pick_no _ c.open_offset_fits.ensures c.if-open_offset_fits.false (pick_yes _ c.open_wav_fits.ensures c.if-open_wav_fits.true c.open_wav.ensures))
-
 pub returns : goal.returns
-returns c = pick_no _ c.open_list_fits.ensures c.if-open_list_fits.false (pick_no _ c.open_offset_fits.ensures c.if-open_offset_fits.false (pick_no _ c.open_wav_fits.ensures c.if-open_wav_fits.false c.open_both.ensures))
+returns c =
+    rw (c.or-3.ensures, c.or-2.ensures, c.or.ensures, c.open_list.ensures, c.open_offset.ensures, c.open_wav.ensures, c.open_both.ensures)
+    (four_said _ _ _ _ _ _ _ _)

@@ -3,7 +3,7 @@
 use mathlib.Core.Path.{refl, ◌∙◌}
 use lib.Dec.{ltb, eqb}
 use Rattle.messages.specs.declared.system_exclusive.DeviceID.TheVariants.{Device, AllCall}
-use Rattle.messages.specs.declared.tuning.TuningBank.TheVariants.{NoBank, Bank}
+use Rattle.std.specs.Prelude.{Some, None}
 use Rattle.messages.specs.declared.sample_dump.LoopNumber.TheVariants.{Loop, RequestAll, DeleteAll}
 use Rattle.numbers_to_message.specs.Values.{spelled}
 use Rattle.numbers_to_message.proofs.Laws.{fit_as, pick_some, pick_map, apart_some, flag_some, reference_some}
@@ -52,7 +52,7 @@ pub returns-in-ReferenceType : goal.returns-in-ReferenceType
 returns-in-ReferenceType c = fit_as c.args.x c.in-ReferenceType.is (reference_some c.args.x)
 
 pub returns-in-BankOrNone : goal.returns-in-BankOrNone
-returns-in-BankOrNone c = fit_as c.args.x c.in-BankOrNone.is (c.is_up_to-in-BankOrNone.ensures ∙ apart_some Bank (eqb c.args.x 256) (ltb c.args.x 256) NoBank c.args.x)
+returns-in-BankOrNone c = fit_as c.args.x c.in-BankOrNone.is (c.is_up_to-in-BankOrNone.ensures ∙ apart_some Some (eqb c.args.x 256) (ltb c.args.x 256) None c.args.x)
 
 pub returns-in-Zero : goal.returns-in-Zero
 returns-in-Zero c = fit_as c.args.x c.in-Zero.is (pick_some (eqb c.args.x 0) tt)

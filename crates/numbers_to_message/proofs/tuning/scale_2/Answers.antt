@@ -1,6 +1,7 @@
--- `numbers_to_message::tuning::scale_2` meets its contract: each field is the value of its number.
+-- `numbers_to_message::tuning::scale_2` meets its contract: each value is that of its number.
 -- Assumes nothing.
 use mathlib.Core.Path.{◌≡◌, ◌∙◌}
+use mathlib.Core.List.{[], ◌∷◌}
 use mir.Syntax.{w16}
 use mir.Val.{to_z, of_z}
 use borrow.Author.Rules.{rules}
@@ -20,17 +21,4 @@ returns c =
     let z9 : to_z w16 (of_z w16 c.i16_at-10.result) ≡ c.i16_at-10.result = search rules in
     let z10 : to_z w16 (of_z w16 c.i16_at-11.result) ≡ c.i16_at-11.result = search rules in
     let z11 : to_z w16 (of_z w16 c.i16_at-12.result) ≡ c.i16_at-12.result = search rules in
-    λ j. record {
-      c = (z0 ∙ c.i16_at.ensures) j;
-      c_sharp = (z1 ∙ c.i16_at-2.ensures) j;
-      d = (z2 ∙ c.i16_at-3.ensures) j;
-      d_sharp = (z3 ∙ c.i16_at-4.ensures) j;
-      e = (z4 ∙ c.i16_at-5.ensures) j;
-      f = (z5 ∙ c.i16_at-6.ensures) j;
-      f_sharp = (z6 ∙ c.i16_at-7.ensures) j;
-      g = (z7 ∙ c.i16_at-8.ensures) j;
-      g_sharp = (z8 ∙ c.i16_at-9.ensures) j;
-      a = (z9 ∙ c.i16_at-10.ensures) j;
-      a_sharp = (z10 ∙ c.i16_at-11.ensures) j;
-      b = (z11 ∙ c.i16_at-12.ensures) j;
-    }
+    λ j. (z0 ∙ c.i16_at.ensures) j ∷ (z1 ∙ c.i16_at-2.ensures) j ∷ (z2 ∙ c.i16_at-3.ensures) j ∷ (z3 ∙ c.i16_at-4.ensures) j ∷ (z4 ∙ c.i16_at-5.ensures) j ∷ (z5 ∙ c.i16_at-6.ensures) j ∷ (z6 ∙ c.i16_at-7.ensures) j ∷ (z7 ∙ c.i16_at-8.ensures) j ∷ (z8 ∙ c.i16_at-9.ensures) j ∷ (z9 ∙ c.i16_at-10.ensures) j ∷ (z10 ∙ c.i16_at-11.ensures) j ∷ (z11 ∙ c.i16_at-12.ensures) j ∷ []

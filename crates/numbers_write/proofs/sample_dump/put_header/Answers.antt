@@ -27,7 +27,7 @@ slice_bounds-put_header-start c =
 
 pub put_header-requires : goal.put_header-requires
 put_header-requires c =
-    (run_room (opened c.args.out.now (omega (arith, c.requires))) 19 (omega (arith, c.requires)), c.clamp-f.ensures, c.loop_byte-t.ensures)
+    (run_room (opened c.args.out.now (omega (arith, c.requires))) 19 (omega (arith, c.requires)), c.clamp-f.ensures, c.from-t.ensures)
 
 pub bounds-out-20 : goal.bounds-out-20
 bounds-out-20 c =

@@ -1,14 +1,14 @@
 -- `numbers_write::sample_dump::write_header` meets its contract: without room SPACE, with room the frame at the place.
 -- Assumes nothing.
 use mathlib.Core.List.{List}
-use mathlib.Core.Path.{◌≡◌, sym, ap}
+use mathlib.Core.Path.{◌≡◌, sym, ap, ◌∙◌}
 use Prim.Native.Nat.{ℕ}
 use lib.ListN.{length}
 use Rattle.util.proofs.Laws.Splice.{part_put}
 use Rattle.messages.specs.Fields.{device_byte}
 use Rattle.messages.specs.Messages.{given, write_of}
 use Rattle.write_fronts.proofs.Laws.{put}
-use Rattle.writer.proofs.Laws.Answers.{no_room, in_room, room_past, room_short, room_there}
+use Rattle.writer.proofs.Laws.Answers.{no_room, in_room}
 use Rattle.numbers_write.specs.Messages.{header_message}
 use Rattle.numbers_write.proofs.Samples.{header_frame, header_length, header_written}
 use Rattle.numbers_write.proofs.sample_dump.write_header.Goals as goal
@@ -31,21 +31,17 @@ w : (c : Start)
     → write_of (header_message c.args.device c.args.sample c.args.format c.args.period c.args.len c.args.start c.args.end c.args.kind) ≡ given (G c)
 w c = header_written c.args.device c.args.sample c.args.format c.args.period c.args.len c.args.start c.args.end c.args.kind
 
-pub returns-then-out-place : goal.returns-then-out-place
-returns-then-out-place c =
-    rw (w (goal.at.returns-then-out-place c).Start) (no_room (G (goal.at.returns-then-out-place c).Start) c.args.out.now c.args.place (room_past (length c.args.out.now) c.args.place _ c.if-out-place.true))
-
-pub returns-then-out-place-lt21 : goal.returns-then-out-place-lt21
-returns-then-out-place-lt21 c =
-    rw (w (goal.at.returns-then-out-place-lt21 c).Start)
-    (no_room (G (goal.at.returns-then-out-place-lt21 c).Start) c.args.out.now c.args.place
-    (room_short (length c.args.out.now) c.args.place _ c.if-out-place.false (rw (k (goal.at.returns-then-out-place-lt21 c).Start) c.if-out-place-lt21.true)))
+pub returns-then-not-has_room : goal.returns-then-not-has_room
+returns-then-not-has_room c =
+    rw (w (goal.at.returns-then-not-has_room c).Start)
+    (no_room (G (goal.at.returns-then-not-has_room c).Start) c.args.out.now c.args.place
+    (rw (k (goal.at.returns-then-not-has_room c).Start) (sym c.has_room.ensures ∙ c.if-not-has_room.true)))
 
 pub returns : goal.returns
 returns c =
     rw (w (goal.at.returns c).Start)
     (in_room (G (goal.at.returns c).Start) c.args.out.now _ c.args.place 21
-    (room_there (length c.args.out.now) c.args.place (length (G (goal.at.returns c).Start)) c.if-out-place.false (rw (k (goal.at.returns c).Start) c.if-out-place-lt21.false))
+    (rw (k (goal.at.returns c).Start) (sym c.has_room.ensures ∙ c.if-not-has_room.false))
     (sym (k (goal.at.returns c).Start))
     (part_put c.args.out.now c.put_header.new.out (G (goal.at.returns c).Start) c.args.place
-    (put _ (ap (F (goal.at.returns c).Start) c.device_byte-d.ensures) c.put_header.ensures)))
+    (put _ (ap (F (goal.at.returns c).Start) c.from-d.ensures) c.put_header.ensures)))

@@ -3,12 +3,12 @@
 use mathlib.Core.List.{List}
 use mathlib.Core.Path.{◌≡◌, refl, sym, ◌∙◌}
 use Prim.Native.Nat.{ℕ}
-use native.Mathlib.Omega.{arith}
+use borrow.Author.Rules.{rules}
 use lib.ListN.{length}
 use Rattle.util.proofs.Laws.Splice.{part_put}
 use Rattle.messages.specs.Fields.{device_byte}
 use Rattle.messages.specs.Messages.{given, write_of}
-use Rattle.writer.proofs.Laws.Answers.{bytes_all, no_room, in_room, room_past, room_short, room_there}
+use Rattle.writer.proofs.Laws.Answers.{bytes_all, no_room, in_room}
 use Rattle.numbers_write.specs.Messages.{scale_message}
 use Rattle.numbers_write.proofs.Scales.{scale_frame, forty_nine, scale_given, scale_refused}
 use Rattle.numbers_write.proofs.tuning.write_scale_dump_2.Goals as goal
@@ -19,25 +19,16 @@ returns-then-not-is_seven c =
     (sym c.is_seven.ensures ∙ c.if-not-is_seven.true))
     (refl, refl)
 
-pub returns-then-out-place : goal.returns-then-out-place
-returns-then-out-place c =
-    let F : List ℕ = scale_frame (device_byte c.args.device) c.args.bank c.args.program c.args.s c.args.text.now in
-    let is_given : write_of (scale_message c.args.device c.args.bank c.args.program c.args.s c.args.text.now) ≡ given F = scale_given c.args.device c.args.bank c.args.program c.args.s c.args.text.now
-    (sym c.is_seven.ensures ∙ c.if-not-is_seven.false)
-    (bytes_all c.args.text.now (λ i. omega (arith, c.shared_slice_known-1.given i))) in
-    rw is_given
-    (no_room F c.args.out.now c.args.place (room_past (length c.args.out.now) c.args.place _ c.if-out-place.true))
-
-pub returns-then-out-place-lt49 : goal.returns-then-out-place-lt49
-returns-then-out-place-lt49 c =
+pub returns-then-not-has_room : goal.returns-then-not-has_room
+returns-then-not-has_room c =
     let F : List ℕ = scale_frame (device_byte c.args.device) c.args.bank c.args.program c.args.s c.args.text.now in
     let l : length F ≡ 49 = forty_nine (device_byte c.args.device) c.args.bank c.args.program c.args.s c.args.text.now in
     let is_given : write_of (scale_message c.args.device c.args.bank c.args.program c.args.s c.args.text.now) ≡ given F = scale_given c.args.device c.args.bank c.args.program c.args.s c.args.text.now
     (sym c.is_seven.ensures ∙ c.if-not-is_seven.false)
-    (bytes_all c.args.text.now (λ i. omega (arith, c.shared_slice_known-1.given i))) in
+    (bytes_all c.args.text.now (λ i. search rules)) in
     rw is_given
     (no_room F c.args.out.now c.args.place
-    (room_short (length c.args.out.now) c.args.place _ c.if-out-place.false (rw l c.if-out-place-lt49.true)))
+    (rw l (sym c.has_room.ensures ∙ c.if-not-has_room.true)))
 
 pub returns : goal.returns
 returns c =
@@ -45,10 +36,10 @@ returns c =
     let l : length F ≡ 49 = forty_nine (device_byte c.args.device) c.args.bank c.args.program c.args.s c.args.text.now in
     let is_given : write_of (scale_message c.args.device c.args.bank c.args.program c.args.s c.args.text.now) ≡ given F = scale_given c.args.device c.args.bank c.args.program c.args.s c.args.text.now
     (sym c.is_seven.ensures ∙ c.if-not-is_seven.false)
-    (bytes_all c.args.text.now (λ i. omega (arith, c.shared_slice_known-1.given i))) in
+    (bytes_all c.args.text.now (λ i. search rules)) in
     rw is_given
     (in_room F c.args.out.now _ c.args.place 49
-    (room_there (length c.args.out.now) c.args.place (length F) c.if-out-place.false (rw l c.if-out-place-lt49.false))
+    (rw l (sym c.has_room.ensures ∙ c.if-not-has_room.false))
     (sym l)
     (part_put c.args.out.now c.put_scale_dump_2.new.out F c.args.place
-    (rw c.device_byte-d.ensures at c.put_scale_dump_2.ensures)))
+    (rw c.from-d.ensures at c.put_scale_dump_2.ensures)))

@@ -1,6 +1,0 @@
--- `numbers_to_message::tuning::scale_dump_1` meets its contract: each field is the value of its number.
--- Assumes nothing.
-use Rattle.numbers_to_message.proofs.tuning.scale_dump_1.Goals as goal
-
-pub returns : goal.returns
-returns c = rw (c.u8_at.ensures, c.u8_at-2.ensures, c.scale_1.ensures)
