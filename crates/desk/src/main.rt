@@ -1,71 +1,74 @@
 // The desk: the command of the arguments.
 #![tactic(auto)]
 
-use desk_commands::words;
+use arrayvec::ArrayVec;
 use desk_io::pieces::Source;
 use desk_print::output;
-use desk_print::output::{Output, complain, complain_number, runtime};
+use desk_print::output::{Output, Stream, complain, complain_number};
 use std::env::{Env, FillError};
 use std::os::fd::AsFd;
 
-// The words of the arguments: so many bytes; or an argument that is longer than any name of a file, or more words than there is room for.
-#[derive(Clone, Copy)]
-pub enum Words {
-    All(usize),
-    Long(usize),
-    Full,
+// The bytes of the words of the arguments.
+type Words = ArrayVec<u8, 65536>;
+
+// Why the arguments are not taken: one is longer than any name of a file, or there is no room for their words.
+#[derive(Clone, Copy, Debug, PartialEq, Eq)]
+pub enum Excess {
+    Word(usize),
+    Words,
 }
 
-// Puts an argument behind the n bytes of words that are there; nothing where there is no such argument.
-fn push_argument(rt: HostRuntime, i: usize, words: &mut [u8], n: usize) -> Option<Words> {
+// Puts a word, ended by a 0, behind those that are there.
+fn push_word(words: &mut Words, word: &[u8]) -> Result<(), Excess> {
+    if words.try_extend_from_slice(word).is_err() {
+        return Err(Excess::Words);
+    }
+    words.try_push(0).map_err(|_| Excess::Words)
+}
+
+// Puts an argument behind the words that are there; whether there is one of that number.
+fn push_argument(rt: HostRuntime, i: usize, words: &mut Words) -> Result<bool, Excess> {
     let mut text = io::buffer();
     match rt.arg(i, &mut text) {
-        Ok(len) => {
-            if text.len() <= len {
-                return Some(Words::Long(i));
-            }
-            if words::has_room(words, n, len) {
-                return Some(Words::All(words::push(words, n, &text[..len])));
-            }
-            Some(Words::Full)
-        }
-        Err(FillError::TooLong) => Some(Words::Long(i)),
-        Err(FillError::NotPresent) => None,
+        Ok(len) => match text.get(..len) {
+            Some(word) if len < text.len() => push_word(words, word).map(|_| true),
+            _ => Err(Excess::Word(i)),
+        },
+        Err(FillError::TooLong) => Err(Excess::Word(i)),
+        Err(FillError::NotPresent) => Ok(false),
     }
 }
 
 // Puts all arguments as words.
-fn push_arguments(rt: HostRuntime, words: &mut [u8]) -> Words {
-    let mut n = 0;
-    let mut i = 1;
-    while i < usize::MAX {
-        let Some(w) = push_argument(rt, i, words, n) else {
+fn push_arguments(rt: HostRuntime, words: &mut Words) -> Result<(), Excess> {
+    for i in 1..usize::MAX {
+        if !push_argument(rt, i, words)? {
             break;
-        };
-        let Words::All(m) = w else {
-            return w;
-        };
-        n = m;
-        i += 1;
+        }
     }
-    Words::All(n)
+    Ok(())
 }
 
-// Runs the words of the arguments.
-fn run(out: &mut Output, words: &[u8], w: Words) {
-    match w {
-        Words::All(n) => {
-            let mut input = Source::Stdin(runtime(out).stdin());
-            desk_commands::run(out, util::bytes::sub_slice(words, 0, n), &mut input)
-        }
-        Words::Long(i) => complain_number(
+// Says why the arguments are not taken.
+fn tell(out: &mut Output, e: Excess) {
+    match e {
+        Excess::Word(i) => complain_number(
             out,
             b"desk",
             b"word ",
             i as u64,
             b" is longer than 4,095 bytes",
         ),
-        Words::Full => complain(out, b"desk", b"too many words, more than 65,536 bytes"),
+        Excess::Words => complain(out, b"desk", b"too many words, more than 65,536 bytes"),
+    }
+}
+
+// Runs the words of the arguments.
+fn run(rt: HostRuntime, out: &mut Output) {
+    let mut words = Words::new();
+    match push_arguments(rt, &mut words) {
+        Ok(()) => desk_commands::run(out, words.as_slice(), &mut Source::Stdin(rt.stdin())),
+        Err(e) => tell(out, e),
     }
 }
 
@@ -81,12 +84,10 @@ fn is_closed(rt: HostRuntime) -> bool {
 }
 
 fn main(rt: HostRuntime) {
-    let mut out = output::new(rt, 2);
+    let mut out = output::new(rt, Stream::Stderr);
     if is_closed(rt) {
         return output::fail(&mut out);
     }
-    let mut words = io::large_buffer();
-    let w = push_arguments(rt, &mut words);
-    run(&mut out, &words, w);
+    run(rt, &mut out);
     output::flush(&mut out);
 }

@@ -1,2 +1,1 @@
 pub mod Mend
-pub mod Sorts

@@ -1,16 +1,14 @@
 -- Other sorts of files, told by how they begin.
 use Rattle.std.specs.Prelude.{Bool, true, ◌&&◌, ◌||◌, List, [], ◌∷◌, ℕ, eqb, leb, ltb, drop, get_or}
 use Rattle.util.specs.Pick.{pick}
+use Rattle.desk_text.specs.Spans.{is_three}
+use Rattle.desk_text.specs.Lines.{mark_length}
 use Rattle.desk_files.specs.declared.sorts.Sort.{Sort}
 use Rattle.desk_files.specs.declared.sorts.Sort.TheVariants.{Capture, MidiFile, SoundFile, Scala, Text}
 
--- whether bytes begin with these three
-unfoldable pub begins_three : ℕ → ℕ → ℕ → List ℕ → Bool
-begins_three a b c s = eqb (get_or s 0 0) a && (eqb (get_or s 1 0) b && eqb (get_or s 2 0) c)
-
 -- whether bytes begin with these four
 unfoldable pub begins : ℕ → ℕ → ℕ → ℕ → List ℕ → Bool
-begins a b c d s = begins_three a b c s && eqb (get_or s 3 0) d
+begins a b c d s = is_three a b c s && eqb (get_or s 3 0) d
 
 -- a byte of text: a tab, a line feed, a form feed, a carriage return, or a printable one
 unfoldable pub is_text_byte : ℕ → Bool
@@ -20,10 +18,6 @@ is_text_byte b = eqb b 9 || (eqb b 10 || (eqb b 12 || (eqb b 13 || (leb 32 b && 
 unfoldable pub is_text : List ℕ → Bool
 is_text [] = true
 is_text (b ∷ l) = is_text_byte b && is_text l
-
--- how many bytes the byte order mark has, where bytes begin with it
-unfoldable pub mark_length : List ℕ → ℕ
-mark_length s = pick (begins_three 0xEF 0xBB 0xBF s) 3 0
 
 -- the sort of bytes behind a mark: a capture where there are none or one is not of text, a Scala file where the first is !
 unfoldable pub sort_of_text : List ℕ → Sort

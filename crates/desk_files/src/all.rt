@@ -1,16 +1,16 @@
 // Every stretch that begins with F0: the frames, and what is none, with the reason.
 use super::frames;
+use super::frames::Part;
 use super::list::Tally;
 use desk_io::pieces;
 use desk_print::output::Output;
 use desk_print::{number, say};
 use messages::file_reference::Kind;
-use reader::lent::Reading;
 use util::groups::at;
 
 // The line of a stretch that ends without F7.
-fn unended(out: &mut Output, offset: u64, len: usize, why: &[u8]) {
-    frames::put_place(out, offset, len);
+fn unended(out: &mut Output, stretch: Part, why: &[u8]) {
+    frames::put_place(out, stretch.offset, stretch.bytes.len());
     say(out, b"-- ");
     say(out, why);
     say(out, b"\n");
@@ -26,66 +26,44 @@ fn endless(out: &mut Output, offset: u64) {
 }
 
 // The line of a stretch that ends with F7.
-fn ended(out: &mut Output, stretch: &[u8], offset: u64, kind: Kind, t: Tally) -> Tally {
-    match reader::examine(stretch, kind) {
-        Reading::Frame { .. } => {
-            frames::line(out, stretch, offset, kind);
-            t.frame()
+fn ended(out: &mut Output, stretch: Part, kind: Kind, tally: &mut Tally) {
+    match reader::examine(stretch.bytes, kind) {
+        Ok(_) => {
+            frames::line(out, stretch, kind);
+            tally.frame();
         }
-        Reading::Refused(r) => {
-            frames::refused(out, stretch, offset, r);
-            t.other()
+        Err(r) => {
+            frames::refused(out, stretch, r);
+            tally.other();
         }
     }
 }
 
-// The line of a stretch at whose end the piece ends.
-fn cut(out: &mut Output, s: &[u8], offset: u64, len: usize, t: Tally) -> Tally {
-    if s.len() < pieces::PIECE {
-        unended(out, offset, len, b"cut: the file ends before its F7");
-    } else {
-        endless(out, offset);
+// The line of the stretch from the F0 at a place of a piece on.
+fn stretch(out: &mut Output, piece: Part, place: usize, kind: Kind, tally: &mut Tally) {
+    let size = piece.bytes.len();
+    let from = piece.part(place, size);
+    let len = frames::end_from(from.bytes, 1);
+    match from.bytes.get(len) {
+        Some(0xF7) => return ended(out, from.part(0, len + 1), kind, tally),
+        Some(_) => unended(out, from.part(0, len), b"cut: another F0 before its F7"),
+        None => {
+            if size < pieces::PIECE {
+                unended(out, from, b"cut: the file ends before its F7");
+            } else {
+                endless(out, from.offset);
+            }
+        }
     }
-    t.other()
+    tally.other();
 }
 
-// The line of the stretch from the F0 at a place on.
-fn stretch(out: &mut Output, s: &[u8], place: usize, base: u64, kind: Kind, t: Tally) -> Tally {
-    let n = s.len();
-    if n <= place {
-        return t;
-    }
-    let offset = pieces::sum(base, place as u64);
-    let e = frames::end_from(s, place + 1);
-    if n <= e {
-        return cut(out, s, offset, n - place, t);
-    }
-    if at(s, e) == 0xF0 {
-        unended(out, offset, e - place, b"cut: another F0 before its F7");
-        return t.other();
-    }
-    ended(out, &s[place..e + 1], offset, kind, t)
-}
-
-// The lines of the stretches that begin before a place.
-pub fn list_stretches(
-    out: &mut Output,
-    s: &[u8],
-    next: usize,
-    base: u64,
-    kind: Kind,
-    t: Tally,
-) -> Tally {
-    let mut tally = t;
-    let mut i = 0;
-    while i < s.len() {
-        if next <= i {
-            return tally;
+// The lines of the stretches of a piece that begin before the next piece.
+pub fn list_stretches(out: &mut Output, piece: Part, kind: Kind, tally: &mut Tally) {
+    let next = pieces::next_start(piece.bytes.len());
+    for (place, b) in piece.bytes.iter().enumerate().take(next) {
+        if *b == 0xF0 {
+            stretch(out, piece, place, kind, tally);
         }
-        if s[i] == 0xF0 {
-            tally = stretch(out, s, i, base, kind, tally);
-        }
-        i += 1;
     }
-    tally
 }

@@ -7,3 +7,4 @@ pub mod list;
 pub mod mend;
 pub mod show;
 pub mod sorts;
+pub mod walks;

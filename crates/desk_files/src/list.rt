@@ -1,24 +1,30 @@
 // The frames of a file, a line each.
-ghost use Rattle.std.specs.Prelude.{◌≤◌, length};
-
-use super::{all, frames, sorts};
+use super::frames::Part;
+use super::{all, frames, sorts, walks};
 use desk_io::names::{complain_number, is_dash};
 use desk_io::pieces;
-use desk_io::pieces::{PIECE, Piece, Source, sum};
+use desk_io::pieces::{PIECE, Source};
 use desk_print::output::Output;
 use desk_print::{names, number, output, say, units};
 use messages::file_reference::Kind;
-use walk::Walked;
+use std::io::ErrorKind;
 
 // Frames only, or every stretch.
-#[derive(Clone, Copy)]
+#[derive(Clone, Copy, Debug, PartialEq, Eq)]
 pub enum Scope {
     Frames,
     All,
 }
 
+// What is listed of a file, and for which kind of sound file.
+#[derive(Clone, Copy, Debug, PartialEq, Eq)]
+pub struct Wanted {
+    pub kind: Kind,
+    pub scope: Scope,
+}
+
 // How many frames there are, how many stretches that are none, and in how many files.
-#[derive(Clone, Copy)]
+#[derive(Clone, Copy, Debug, Default, PartialEq, Eq)]
 pub struct Tally {
     pub frames: u64,
     pub others: u64,
@@ -26,255 +32,68 @@ pub struct Tally {
 }
 
 impl Tally {
-    // No stretch.
-    pub fn none() -> Self {
-        Tally {
-            frames: 0,
-            others: 0,
-            files: 0,
-        }
-    }
-
     // One more frame.
-    pub fn frame(self) -> Self {
-        Tally {
-            frames: sum(self.frames, 1),
-            others: self.others,
-            files: self.files,
-        }
+    pub fn frame(&mut self) {
+        self.frames = self.frames.saturating_add(1);
     }
 
     // One more stretch that is no frame.
-    pub fn other(self) -> Self {
-        Tally {
-            frames: self.frames,
-            others: sum(self.others, 1),
-            files: self.files,
-        }
+    pub fn other(&mut self) {
+        self.others = self.others.saturating_add(1);
     }
 
-    // With the stretches of another file.
-    pub fn file(self, t: Tally) -> Self {
-        Tally {
-            frames: sum(self.frames, t.frames),
-            others: sum(self.others, t.others),
-            files: sum(self.files, 1),
-        }
+    // The stretches of another file.
+    pub fn file(&mut self, t: Tally) {
+        self.frames = self.frames.saturating_add(t.frames);
+        self.others = self.others.saturating_add(t.others);
+        self.files = self.files.saturating_add(1);
     }
-}
-
-// A number of the index.
-pub fn place(index: &[u32], i: usize) -> usize {
-    if i < index.len() {
-        return wide(index[i]);
-    }
-    0
-}
-
-// A number of the index as a wider one.
-fn wide(x: u32) -> usize {
-    x as usize
-}
-
-// The frame of a pair of the index, where it begins before the next piece.
-fn list_pair(
-    out: &mut Output,
-    s: &[u8],
-    offset: usize,
-    len: usize,
-    next: usize,
-    base: u64,
-    kind: Kind,
-    t: Tally,
-) -> Tally {
-    if offset < next {
-        frames::line(
-            out,
-            util::bytes::sub_slice(s, offset, len),
-            sum(base, offset as u64),
-            kind,
-        );
-        return t.frame();
-    }
-    t
-}
-
-// The frames of an index of n pairs that begin before the next piece.
-fn list_index(
-    out: &mut Output,
-    s: &[u8],
-    index: &[u32],
-    n: usize,
-    next: usize,
-    base: u64,
-    kind: Kind,
-    t: Tally,
-) -> Tally {
-    let mut tally = t;
-    let mut i = 0;
-    while i < n {
-        if index.len() / 2 <= i {
-            return tally;
-        }
-        tally = list_pair(
-            out,
-            s,
-            place(index, i * 2),
-            place(index, i * 2 + 1),
-            next,
-            base,
-            kind,
-            tally,
-        );
-        i += 1;
-    }
-    tally
 }
 
 // The frames of a piece that begin before the next piece.
-fn list_frames(
-    out: &mut Output,
-    s: &[u8],
-    next: usize,
-    base: u64,
-    kind: Kind,
-    index: &mut [u32],
-    t: Tally,
-) -> Tally {
-    match walk::walk(s, kind, index) {
-        Walked::Frames(n) => list_index(out, s, index, n, next, base, kind, t),
-        Walked::Refused(_, _) => t,
-    }
+fn list_frames(out: &mut Output, piece: Part, kind: Kind, index: &mut [u32], tally: &mut Tally) {
+    walks::each_frame(piece, kind, index, |frame| {
+        frames::line(out, frame, kind);
+        tally.frame();
+    });
 }
 
 // The stretches of a piece that begin before the next piece.
-fn list_piece(
-    out: &mut Output,
-    s: &[u8],
-    base: u64,
-    kind: Kind,
-    scope: Scope,
-    index: &mut [u32],
-    t: Tally,
-) -> Tally {
-    let next = pieces::next_start(s.len());
-    match scope {
-        Scope::Frames => list_frames(out, s, next, base, kind, index, t),
-        Scope::All => all::list_stretches(out, s, next, base, kind, t),
+fn list_piece(out: &mut Output, piece: Part, wanted: Wanted, index: &mut [u32], tally: &mut Tally) {
+    match wanted.scope {
+        Scope::Frames => list_frames(out, piece, wanted.kind, index, tally),
+        Scope::All => all::list_stretches(out, piece, wanted.kind, tally),
     }
 }
 
-// The place of the F0 that a piece ends behind without an F7; the end of the piece where there is none.
-fn unended(s: &[u8]) -> usize {
-    let mut i = s.len();
-    while 0 < i {
-        i -= 1;
-        if s[i] == 0xF7 {
-            return s.len();
-        }
-        if s[i] == 0xF0 {
-            return i;
-        }
+// The place of the F0 that a piece ends behind without an F7, if there is one.
+fn unended(s: &[u8]) -> Option<usize> {
+    let edge = s.iter().rposition(|b| frames::is_edge(*b))?;
+    if util::groups::at(s, edge) == 0xF0 {
+        Some(edge)
+    } else {
+        None
     }
-    s.len()
 }
 
 // Says that a file ends inside a message.
-fn tell_cut(out: &mut Output, s: &[u8], base: u64, path: &[u8]) {
-    let at = unended(s);
-    if at < s.len() {
+fn tell_cut(out: &mut Output, path: &[u8], piece: Part) {
+    if let Some(place) = unended(piece.bytes) {
         complain_number(
             out,
             path,
             b"the file ends inside a message that begins at offset ",
-            sum(base, at as u64),
+            piece.offset.saturating_add(place as u64),
             b"",
         );
     }
 }
 
-// What is known after a piece: how many stretches there are, and the next piece, if one follows.
-#[derive(Clone, Copy)]
-pub struct Listing {
-    pub piece: Piece,
-    pub tally: Tally,
-    pub is_done: bool,
-}
-
-// Lists a piece, and reads the next one.
-fn step(
-    out: &mut Output,
-    source: &mut Source,
-    path: &[u8],
-    kind: Kind,
-    scope: Scope,
-    room: &mut [u8],
-    index: &mut [u32],
-    p: Piece,
-    t: Tally,
-) -> Listing
-    requires { p.len ≤ length room.old }
-    ensures { result.piece.len ≤ length room.old }
-{
-    let len = p.len;
-    let tally = list_piece(out, &room[0..len], p.base, kind, scope, index, t);
-    if len < pieces::PIECE {
-        tell_cut(out, &room[0..len], p.base, path);
-        return Listing {
-            piece: p,
-            tally,
-            is_done: true,
-        };
-    }
-    let piece = pieces::next(source, room, p, pieces::next_start(len));
-    Listing {
-        piece,
-        tally,
-        is_done: output::is_failed(out),
-    }
-}
-
 // Says how far a file is read, every 256 pieces behind the first.
-fn tell_progress(out: &mut Output, turns: u64, base: u64) {
-    if turns % 256 == 0 {
-        pieces::progress(out, base);
+fn tell_progress(out: &mut Output, turn: u64, offset: u64) {
+    if turn % 256 == 255 {
+        pieces::progress(out, offset);
     }
-}
-
-// Lists an open file from its first piece on. Nothing says that a file ends, so the turns are counted down from a number that no run uses up.
-fn list_pieces(
-    out: &mut Output,
-    source: &mut Source,
-    path: &[u8],
-    kind: Kind,
-    scope: Scope,
-    room: &mut [u8],
-    index: &mut [u32],
-    first: Piece,
-) -> Listing
-    requires { first.len ≤ length room.old }
-    ensures { result.piece.len ≤ length room.old }
-{
-    let mut s = Listing {
-        piece: first,
-        tally: Tally::none(),
-        is_done: first.failure.is_some(),
-    };
-    let mut turns = u64::MAX;
-    while turns > 0 {
-        if s.is_done {
-            break;
-        }
-        if s.piece.failure.is_some() {
-            break;
-        }
-        let piece = s.piece;
-        let tally = s.tally;
-        tell_progress(out, turns, piece.base);
-        s = step(out, source, path, kind, scope, room, index, piece, tally);
-        turns -= 1;
-    }
-    s
 }
 
 // Puts how many stretches are no frame.
@@ -288,9 +107,8 @@ fn put_others(out: &mut Output, others: u64) {
 
 // Puts how many frames there are; and how many stretches are none.
 fn put_tally(out: &mut Output, t: Tally, scope: Scope) {
-    match scope {
-        Scope::Frames => {}
-        Scope::All => put_others(out, t.others),
+    if scope == Scope::All {
+        put_others(out, t.others);
     }
     number(out, t.frames);
     say(out, b" frames\n");
@@ -303,31 +121,46 @@ pub fn put_sum(out: &mut Output, t: Tally, scope: Scope) {
     put_tally(out, t, scope);
 }
 
-// Lists an open file; the tally so far, with its own.
+// Lists a piece; whether more can be told.
+fn list_next(
+    out: &mut Output,
+    path: &[u8],
+    turn: u64,
+    piece: Part,
+    wanted: Wanted,
+    index: &mut [u32],
+    tally: &mut Tally,
+) -> bool {
+    tell_progress(out, turn, piece.offset);
+    list_piece(out, piece, wanted, index, tally);
+    if piece.bytes.len() < PIECE {
+        tell_cut(out, path, piece);
+    }
+    !output::is_failed(out)
+}
+
+// Lists an open file, and adds its tally to that of all; an error where reading fails.
 fn list_open(
     out: &mut Output,
     source: &mut Source,
     path: &[u8],
-    kind: Kind,
-    scope: Scope,
+    wanted: Wanted,
     room: &mut [u8],
-    t: Tally,
-) -> Tally {
+    total: &mut Tally,
+) -> Result<(), ErrorKind> {
     let mut index = [0u32; 21844];
-    let first = pieces::first(source, room, 0);
-    let sort = sorts::sort_of(util::bytes::sub_slice(room, 0, first.len));
-    let s = list_pieces(out, source, path, kind, scope, room, &mut index, first);
-    let piece = s.piece;
-    let tally = s.tally;
-    if let Some(why) = piece.failure {
-        pieces::unreadable(out, path, why);
-        return t;
-    }
+    let mut tally = Tally::default();
+    let first = pieces::first(source, room, 0)?;
+    let sort = sorts::sort_of(&room[..first.len]);
+    walks::each_piece(source, room, first, |turn, piece| {
+        list_next(out, path, turn, piece, wanted, &mut index, &mut tally)
+    })?;
     if tally.frames == 0 {
         sorts::hint(out, path, sort);
     }
-    put_tally(out, tally, scope);
-    t.file(tally)
+    put_tally(out, tally, wanted.scope);
+    total.file(tally);
+    Ok(())
 }
 
 // Puts the name of an input file.
@@ -346,21 +179,16 @@ fn put_name(out: &mut Output, path: &[u8], is_named: bool) {
     }
 }
 
-// Lists the frames of a file, behind its name where it is one of several; the tally so far, with its own.
-pub fn list(
-    out: &mut Output,
-    path: &[u8],
-    kind: Kind,
-    scope: Scope,
-    is_named: bool,
-    t: Tally,
-) -> Tally {
+// Lists the frames of a file, behind its name where it is one of several, and adds its tally to that of all.
+pub fn list(out: &mut Output, path: &[u8], wanted: Wanted, is_named: bool, total: &mut Tally) {
     let Some(mut source) = pieces::open(out, path) else {
-        return t;
+        return;
     };
     put_name(out, path, is_named);
     let mut room = io::large_buffer();
-    let tally = list_open(out, &mut source, path, kind, scope, &mut room[0..PIECE], t);
+    let read = list_open(out, &mut source, path, wanted, &mut room[0..PIECE], total);
+    if let Err(why) = read {
+        pieces::unreadable(out, path, why);
+    }
     pieces::close(source);
-    tally
 }

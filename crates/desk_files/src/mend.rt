@@ -3,6 +3,7 @@ ghost use Rattle.desk_files.specs.Mend.{Mended};
 
 // Copies a stretch to the start of a buffer with the sum that is due in place of its own; how many bytes that are, none where there is no room or
 // no place of a sum.
+// Kept as a count that is 0 for none: `Mended` counts the mended bytes, and the one caller would turn None back into no bytes.
 pub fn with_sum(stretch: &[u8], room: &mut [u8]) -> usize
     ensures { Mended stretch.now room.old room.new result }
 {

@@ -1,6 +1,7 @@
 // One message, every field a line.
-ghost use Rattle.std.specs.Prelude.{◌≤◌, length};
+ghost use Rattle.std.specs.Prelude.{◌≡◌, ◌≤◌, IfSome, length};
 
+use super::frames::Part;
 use super::{frames, mend};
 use desk_io::names::complain_number;
 use desk_io::pieces;
@@ -13,36 +14,39 @@ use messages::file_dump::FileDumpMsg;
 use messages::file_reference::Kind;
 use messages::system_exclusive::{DeviceID, UniversalNonRealTimeMsg};
 use reader::lent::Reading;
+use util::bytes::sub_slice;
 use util::limits::{KEYS, MOST_DATA};
 use util::refusal::Refusal;
 
-// The bytes of a file packet.
-fn show_data(out: &mut Output, m: FileDumpMsg, data: &[u8]) {
-    match m {
-        FileDumpMsg::Header { .. } => {}
-        FileDumpMsg::Packet { .. } => lists::data(out, data),
-        FileDumpMsg::Request { .. } => {}
+// A message of a file: the file's name, the kind of sound file that it is read for, the offset of its first byte.
+#[derive(Clone, Copy)]
+pub struct Place<'a> {
+    pub path: &'a [u8],
+    pub kind: Kind,
+    pub offset: u64,
+}
+
+impl<'a> Place<'a> {
+    // The bytes of a message there.
+    pub fn part<'b>(self, bytes: &'b [u8]) -> Part<'b>
+        ensures { (result.bytes.now ≡ bytes.now) × (result.offset ≡ self.entry.offset) }
+    {
+        Part {
+            bytes,
+            offset: self.offset,
+        }
     }
 }
 
 // The lists of a message that were read into lent space.
 fn show_lists(out: &mut Output, m: UniversalNonRealTimeMsg, data: &[u8], entries: &[u64]) {
     match m {
-        UniversalNonRealTimeMsg::FileDump(x) => show_data(out, x, data),
+        UniversalNonRealTimeMsg::FileDump(FileDumpMsg::Packet { .. }) => lists::data(out, data),
         UniversalNonRealTimeMsg::KeyBasedTuningDump(_) => lists::keys(out, entries),
         UniversalNonRealTimeMsg::TuningNoteChange(_) => lists::changes(out, entries),
         UniversalNonRealTimeMsg::FileReference(_) => lists::maps(out, entries),
         _ => {}
     }
-}
-
-// The first n entries, or as many as there are.
-fn first(entries: &[u64], n: usize) -> &[u64] {
-    let size = entries.len();
-    if size < n {
-        return &entries[0..size];
-    }
-    &entries[0..n]
 }
 
 // The line of a sum that is wrong.
@@ -67,154 +71,101 @@ fn show_common(out: &mut Output, frame: &[u8], is_right: bool, device: DeviceID)
     say(out, b"\n");
 }
 
-// The lines of a message that was read of a frame.
-fn show_message(
-    out: &mut Output,
-    m: UniversalNonRealTimeMsg,
-    text: &[u8],
-    data: &[u8],
-    entries: &[u64],
-    places: usize,
-) {
-    desk_messages::message(out, Style::Lines, m, text, places);
+// The lines of a message that was read of a frame, with lent space.
+fn show_message(out: &mut Output, frame: &[u8], r: Reading, data: &[u8], entries: &[u64]) {
+    desk_messages::message(out, Style::Lines, r.m, frames::beside(frame, r));
     show_lists(
         out,
-        m,
-        util::bytes::sub_slice(data, 0, places),
-        first(entries, places),
+        r.m,
+        sub_slice(data, 0, r.places),
+        &entries[..r.places.min(entries.len())],
     );
 }
 
-// The lines of a frame; or of a frame whose sum is wrong, told by the frame with the sum that is due.
-fn show_frame(
-    out: &mut Output,
-    path: &[u8],
-    stretch: &[u8],
-    frame: &[u8],
-    is_right: bool,
-    offset: u64,
-    kind: Kind,
-) {
+// The lines of a stretch that is a frame; or whose sum is wrong, told by the frame with the sum that is due.
+fn show_frame(out: &mut Output, place: Place, stretch: &[u8], frame: &[u8], is_right: bool) {
     let mut data = [0u8; MOST_DATA];
     let mut entries = [0u64; KEYS];
-    match reader::read(frame, kind, &mut data, &mut entries) {
-        Reading::Frame {
-            device,
-            m,
-            from,
-            len,
-            places,
-        } => {
-            show_common(out, stretch, is_right, device);
-            show_message(
-                out,
-                m,
-                util::bytes::sub_slice(frame, from, len),
-                &data,
-                &entries,
-                places,
-            );
+    match reader::read(frame, place.kind, &mut data, &mut entries) {
+        Ok(r) => {
+            show_common(out, stretch, is_right, r.device);
+            show_message(out, frame, r, &data, &entries);
         }
-        Reading::Refused(r) => frames::complain(out, path, stretch, offset, r),
+        Err(refusal) => frames::complain(out, place.path, place.part(stretch), refusal),
     }
 }
 
 // Says that a message has a wrong sum.
-fn tell_sum(out: &mut Output, path: &[u8], offset: u64) {
+fn tell_sum(out: &mut Output, place: Place) {
     complain_number(
         out,
-        path,
+        place.path,
         b"the message at offset ",
-        offset,
+        place.offset,
         b" has a wrong sum",
     );
 }
 
 // Shows a stretch: a frame, or one whose sum alone is wrong.
-fn show_stretch(out: &mut Output, path: &[u8], stretch: &[u8], offset: u64, kind: Kind) {
-    if is_sum(reader::examine(stretch, kind)) {
-        tell_sum(out, path, offset);
+fn show_stretch(out: &mut Output, place: Place, stretch: &[u8]) {
+    if let Err(Refusal::Sum) = reader::examine(stretch, place.kind) {
+        tell_sum(out, place);
         let mut room = io::buffer();
         let n = mend::with_sum(stretch, &mut room);
-        return show_frame(
-            out,
-            path,
-            stretch,
-            util::bytes::sub_slice(&room, 0, n),
-            false,
-            offset,
-            kind,
-        );
+        return show_frame(out, place, stretch, sub_slice(&room, 0, n), false);
     }
-    show_frame(out, path, stretch, stretch, true, offset, kind);
-}
-
-// Whether a stretch is no frame for its sum alone.
-fn is_sum(r: Reading) -> bool {
-    match r {
-        Reading::Frame { .. } => false,
-        Reading::Refused(x) => match x {
-            Refusal::Sum => true,
-            _ => false,
-        },
-    }
+    show_frame(out, place, stretch, stretch, true);
 }
 
 // Says that no stretch from F0 to F7 begins at an offset.
-pub fn no_message(out: &mut Output, path: &[u8], offset: u64) {
+pub fn no_message(out: &mut Output, place: Place) {
     complain_number(
         out,
-        path,
+        place.path,
         b"no message from F0 to F7 begins at offset ",
-        offset,
+        place.offset,
         b"",
     );
 }
 
-// Reads the bytes of an open file from an offset on; none, and a line that says why, where that fails.
+// Reads the bytes of an open file from an offset on, and how many they are; a line that says why, where there are none or that fails.
 pub fn read_open(
     out: &mut Output,
     source: &mut Source,
-    path: &[u8],
-    offset: u64,
+    place: Place,
     room: &mut [u8],
-) -> usize
-    ensures { result ≤ length room.old }
+) -> Option<usize>
+    ensures { IfSome result (λ n. n ≤ length room.old) }
 {
-    if !pieces::seek(source, room, offset) {
-        no_message(out, path, offset);
-        return 0;
+    if !pieces::seek(source, room, place.offset) {
+        no_message(out, place);
+        return None;
     }
-    let got = pieces::read_all(source, room);
-    if let Some(why) = got.failure {
-        pieces::unreadable(out, path, why);
-        return 0;
+    match pieces::read_all(source, room) {
+        Ok(0) => no_message(out, place),
+        Ok(n) => return Some(n),
+        Err(why) => pieces::unreadable(out, place.path, why),
     }
-    if got.count == 0 {
-        no_message(out, path, offset);
-    }
-    got.count
+    None
 }
 
 // Shows the message at an offset of an open file.
-fn show_open(out: &mut Output, source: &mut Source, path: &[u8], kind: Kind, offset: u64) {
+fn show_open(out: &mut Output, source: &mut Source, place: Place) {
     let mut room = io::buffer();
-    let n = read_open(out, source, path, offset, &mut room);
-    if n == 0 {
-        return;
-    }
-    let stretch = frames::first(util::bytes::sub_slice(&room, 0, n));
-    if stretch.len() == 0 {
-        return no_message(out, path, offset);
-    }
-    show_stretch(out, path, stretch, offset, kind);
-}
-
-// Shows the message at an offset of a file.
-pub fn show(out: &mut Output, path: &[u8], kind: Kind, offset: u64) {
-    let Some(mut source) = pieces::open(out, path) else {
+    let Some(n) = read_open(out, source, place, &mut room) else {
         return;
     };
-    show_open(out, &mut source, path, kind, offset);
+    match frames::first(&room[..n]) {
+        Some(stretch) => show_stretch(out, place, stretch),
+        None => no_message(out, place),
+    }
+}
+
+// Shows a message of a file.
+pub fn show(out: &mut Output, place: Place) {
+    let Some(mut source) = pieces::open(out, place.path) else {
+        return;
+    };
+    show_open(out, &mut source, place);
     pieces::close(source);
 }

@@ -1,5 +1,5 @@
 // A file read in pieces that overlap.
-ghost use Rattle.std.specs.Prelude.{◌≡◌, ℕ, ◌+◌, ◌-◌, ◌≤◌, ◌<◌, eqb, length, get_or};
+ghost use Rattle.std.specs.Prelude.{◌≡◌, ℕ, ◌+◌, ◌-◌, ◌≤◌, ◌<◌, IfOk, eqb, length, get_or};
 ghost use Rattle.std.specs.Io.{ReadsAtMost};
 ghost use Rattle.desk_io.specs.Pieces.{NextPiece};
 
@@ -16,12 +16,11 @@ pub const PIECE: usize = MOST_STREAM;
 // The bytes that two pieces share: no frame has more.
 pub const OVERLAP: usize = 4096;
 
-// Bytes of a file: so many of the buffer, the first of which has the offset base in the file; or a read that failed.
+// Bytes of a file: so many of the buffer, the first of which has the offset base in the file.
 #[derive(Clone, Copy)]
 pub struct Piece {
     pub base: u64,
     pub len: usize,
-    pub failure: Option<ErrorKind>,
 }
 
 // What is read: standard input, an open file, or nothing, where each read fails.
@@ -34,7 +33,7 @@ pub enum Source {
 
 // The sum of two numbers, up to the largest number.
 pub fn sum(a: u64, b: u64) -> u64 {
-    if b <= u64::MAX - a { a + b } else { u64::MAX }
+    a.saturating_add(b)
 }
 
 // Where in a piece the next one begins.
@@ -49,18 +48,9 @@ fn shift(room: &mut [u8], at: usize, end: usize)
     requires { (at ≤ end) × (end ≤ length room.old) }
     ensures { (k : ℕ) → k < end - at → get_or room.new k 0 ≡ get_or room.old (at + k) 0 }
 {
-    let mut i = 0;
-    while i < end - at {
+    for i in 0..end - at {
         room[i] = room[at + i];
-        i += 1;
     }
-}
-
-// What reading gave: so many bytes, or a failure.
-#[derive(Clone, Copy)]
-pub struct Got {
-    pub failure: Option<ErrorKind>,
-    pub count: usize,
 }
 
 // Reads bytes of a source to the start of a buffer.
@@ -75,18 +65,12 @@ fn read_source(source: &mut Source, room: &mut [u8]) -> std::io::Result<usize>
 }
 
 // Reads bytes of the file to the start of a buffer.
-pub fn read_once(source: &mut Source, room: &mut [u8]) -> Got
-    ensures { result.count ≤ length room.old }
+pub fn read_once(source: &mut Source, room: &mut [u8]) -> Result<usize, ErrorKind>
+    ensures { IfOk result (λ n. n ≤ length room.old) }
 {
     match read_source(source, room) {
-        Ok(count) => Got {
-            failure: None,
-            count,
-        },
-        Err(e) => Got {
-            failure: Some(e.kind()),
-            count: 0,
-        },
+        Ok(count) => Ok(count),
+        Err(e) => Err(e.kind()),
     }
 }
 
@@ -98,51 +82,40 @@ fn is_end(count: usize) -> bool
 }
 
 // Reads the file up to its end or the buffer's.
-pub fn read_all(source: &mut Source, room: &mut [u8]) -> Got
-    ensures { result.count ≤ length room.old }
+pub fn read_all(source: &mut Source, room: &mut [u8]) -> Result<usize, ErrorKind>
+    ensures { IfOk result (λ n. n ≤ length room.old) }
 {
     let mut n = 0;
     while n < room.len() {
-        let got = read_once(source, &mut room[n..]);
-        if got.failure.is_some() {
-            return got;
-        }
-        if is_end(got.count) {
+        let count = read_once(source, &mut room[n..])?;
+        if is_end(count) {
             break;
         }
-        n += got.count;
+        n += count;
     }
-    Got {
-        failure: None,
-        count: n,
-    }
+    Ok(n)
 }
 
 // The first piece of a file whose next byte has an offset.
-pub fn first(source: &mut Source, room: &mut [u8], base: u64) -> Piece
-    ensures { result.len ≤ length room.old }
+pub fn first(source: &mut Source, room: &mut [u8], base: u64) -> Result<Piece, ErrorKind>
+    ensures { IfOk result (λ p. p.len ≤ length room.old) }
 {
-    let got = read_all(source, room);
-    Piece {
-        base,
-        len: got.count,
-        failure: got.failure,
-    }
+    let len = read_all(source, room)?;
+    Ok(Piece { base, len })
 }
 
 // The next piece: the bytes from a place on move to the start, and more are read behind them.
-pub fn next(source: &mut Source, room: &mut [u8], p: Piece, at: usize) -> Piece
+pub fn next(source: &mut Source, room: &mut [u8], p: Piece, at: usize) -> Result<Piece, ErrorKind>
     requires { (at ≤ p.len) × (p.len ≤ length room.old) }
-    ensures { result.len ≤ length room.old }
+    ensures { IfOk result (λ q. q.len ≤ length room.old) }
 {
     shift(room, at, p.len);
     let rest = p.len - at;
-    let got = read_all(source, &mut room[rest..]);
-    Piece {
+    let count = read_all(source, &mut room[rest..])?;
+    Ok(Piece {
         base: sum(p.base, at as u64),
-        len: rest + got.count,
-        failure: got.failure,
-    }
+        len: rest + count,
+    })
 }
 
 // Says why a file cannot be opened or read.
@@ -185,28 +158,26 @@ pub fn close(_source: Source) {}
 fn pass(source: &mut Source, room: &mut [u8], count: u64) -> bool {
     let mut left = count;
     while 0 < left {
-        let got = read_some(source, room, left);
-        if got == 0 {
-            return false;
+        match read_some(source, room, left) {
+            Ok(count) if 0 < count => left -= count as u64,
+            _ => return false,
         }
-        left -= got as u64;
     }
     true
 }
 
-// Reads up to so many bytes of the file; how many they are, none at the end or where reading fails.
-fn read_some(source: &mut Source, room: &mut [u8], most: u64) -> usize
-    ensures { result ≤ most }
+// Reads up to so many bytes of the file; how many they are, none at the end.
+fn read_some(source: &mut Source, room: &mut [u8], most: u64) -> Result<usize, ErrorKind>
+    ensures { IfOk result (λ n. n ≤ most) }
 {
-    let n = util::groups::hold(most, room.len() as u64) as usize;
-    read_once(source, &mut room[0..n]).count
+    let n = most.min(room.len() as u64) as usize;
+    read_once(source, &mut room[..n])
 }
 
 // Goes to an offset of a file, where it has positions; whether that was done.
 fn seek_source(source: &mut Source, offset: u64) -> bool {
     match source {
-        Source::Nothing => false,
-        Source::Stdin(_) => false,
+        Source::Nothing | Source::Stdin(_) => false,
         Source::File(file) => file.seek(SeekFrom::Start(offset)).is_ok(),
     }
 }

@@ -1,5 +1,5 @@
 // File dumps in words.
-use super::system;
+use super::{Beside, system};
 use desk_print::fields::Style;
 use desk_print::output::Output;
 use desk_print::{fields, names, say};
@@ -15,7 +15,7 @@ fn put_type(out: &mut Output, t: FileType) {
         FileType::TEXT => say(out, b"TEXT"),
         FileType::BIN => say(out, b"BIN"),
         FileType::MAC => say(out, b"MAC"),
-        FileType::Custom(a, b, c, d) => names::quoted_four(out, a, b, c, d),
+        FileType::Custom(letters) => names::quoted(out, &letters),
     }
 }
 
@@ -43,7 +43,7 @@ fn other_device(out: &mut Output, style: Style, label: &[u8], d: DeviceID) {
 }
 
 // A file dump in words; a packet holds so many bytes of the file.
-pub fn file(out: &mut Output, style: Style, m: FileDumpMsg, text: &[u8], places: usize) {
+pub fn file(out: &mut Output, style: Style, m: FileDumpMsg, beside: Beside) {
     match m {
         FileDumpMsg::Header {
             sender_device,
@@ -51,21 +51,21 @@ pub fn file(out: &mut Output, style: Style, m: FileDumpMsg, text: &[u8], places:
             length,
         } => {
             fields::title(out, style, b"file header");
-            file_name(out, style, file_type, text);
+            file_name(out, style, file_type, beside.text);
             fields::counted(out, style, b"length", length as u64, b"byte");
             other_device(out, style, b"from device", sender_device);
         }
         FileDumpMsg::Packet { running_count } => {
             fields::title(out, style, b"file packet");
             fields::close(out, style, b"packet", running_count as u64);
-            fields::counted(out, style, b"size", places as u64, b"byte");
+            fields::counted(out, style, b"size", beside.places as u64, b"byte");
         }
         FileDumpMsg::Request {
             requester_device,
             file_type,
         } => {
             fields::title(out, style, b"file request");
-            file_name(out, style, file_type, text);
+            file_name(out, style, file_type, beside.text);
             other_device(out, style, b"for device", requester_device);
         }
     }

@@ -6,7 +6,7 @@ use desk_print::fields::Style;
 use desk_print::output::Output;
 use desk_print::{cents, hex_all, names, number, say};
 use messages::file_reference::SoundFileMap;
-use messages::tuning::{KeyTuning, MaybeTuning, Scale1Byte, Scale2Byte, Tuning};
+use messages::tuning::{KeyTuning, Tuning, tuning_of};
 use util::limits::KEYS;
 use util::signed;
 
@@ -45,46 +45,49 @@ fn put_tuning(out: &mut Output, key: u8, t: Tuning) {
 }
 
 // A line for a key: its number, its name, its tuning.
-fn key_line(out: &mut Output, key: u8, tuning: MaybeTuning) {
+fn key_line(out: &mut Output, key: u8, tuning: Option<Tuning>) {
     number(out, wide(key));
     say(out, b" ");
     names::key(out, key);
     match tuning {
-        MaybeTuning::NoTuning => say(out, b" -\n"),
-        MaybeTuning::Tuned(t) => put_tuning(out, key, t),
+        None => say(out, b" -\n"),
+        Some(t) => put_tuning(out, key, t),
     }
 }
 
 // The lines of a key dump.
 pub fn keys(out: &mut Output, entries: &[u64]) {
-    let mut i = 0;
-    while i < entries.len() {
-        if KEYS <= i {
-            return;
-        }
-        key_line(out, i as u8, MaybeTuning::from_entry(entries[i]));
-        i += 1;
+    for (key, entry) in (0..KEYS as u8).zip(entries) {
+        key_line(out, key, tuning_of(*entry));
+    }
+}
+
+// A line for each entry of a list.
+fn each<F: Fn(&mut Output, u64)>(out: &mut Output, entries: &[u64], line: F)
+    requires { F.IsAlwaysCallable line }
+{
+    for entry in entries {
+        line(out, *entry);
     }
 }
 
 // The line of a note change.
 fn change_line(out: &mut Output, entry: u64) {
     let c = KeyTuning::from_entry(entry);
-    let tuning = c.tuning;
-    key_line(out, c.key, tuning);
+    key_line(out, c.key, c.tuning);
 }
 
 // The lines of a note change.
 pub fn changes(out: &mut Output, entries: &[u64]) {
-    let mut i = 0;
-    while i < entries.len() {
-        change_line(out, entries[i]);
-        i += 1;
-    }
+    each(out, entries, change_line);
 }
 
-// Puts drums, where a map is of drums.
-fn put_drums(out: &mut Output, is_drum: bool) {
+// Puts a bank and a program, and whether they are of drums.
+fn put_program(out: &mut Output, bank: u16, program: u8, is_drum: bool) {
+    say(out, b"bank ");
+    number(out, bank as u64);
+    say(out, b" program ");
+    number(out, program as u64);
     if is_drum {
         say(out, b" drums");
     }
@@ -93,16 +96,10 @@ fn put_drums(out: &mut Output, is_drum: bool) {
 // The line of a map of a sound file.
 fn map_line(out: &mut Output, entry: u64) {
     let m = SoundFileMap::from_entry(entry);
-    say(out, b"map: bank ");
-    number(out, m.src_bank as u64);
-    say(out, b" program ");
-    number(out, m.src_prog as u64);
-    put_drums(out, m.src_drum);
-    say(out, b" to bank ");
-    number(out, m.dst_bank as u64);
-    say(out, b" program ");
-    number(out, m.dst_prog as u64);
-    put_drums(out, m.dst_drum);
+    say(out, b"map: ");
+    put_program(out, m.src_bank, m.src_prog, m.src_drum);
+    say(out, b" to ");
+    put_program(out, m.dst_bank, m.dst_prog, m.dst_drum);
     say(out, b", volume ");
     number(out, m.volume as u64);
     say(out, b"\n");
@@ -110,11 +107,7 @@ fn map_line(out: &mut Output, entry: u64) {
 
 // The lines of the maps of a sound file.
 pub fn maps(out: &mut Output, entries: &[u64]) {
-    let mut i = 0;
-    while i < entries.len() {
-        map_line(out, entries[i]);
-        i += 1;
-    }
+    each(out, entries, map_line);
 }
 
 // The bytes of a file packet in a line.
@@ -138,10 +131,23 @@ fn signed_2(v: i16) -> Signed
     cents::difference(8192, signed::i_to_u14(v) as u64)
 }
 
-// Puts a signed value of two groups, in 8,192nds of a semitone, in cents.
-fn put_cents_2(out: &mut Output, v: i16) {
-    cents::decimals(out, cents::in_cents(signed_2(v), 8192));
-    say(out, b" cents\n");
+// A value of a scale or of a fine tuning, put in cents.
+pub(crate) trait InCents: Copy {
+    fn put_cents(self, out: &mut Output);
+}
+
+impl InCents for i8 {
+    // A value of one group, in cents.
+    fn put_cents(self, out: &mut Output) {
+        cents::whole(out, signed_1(self));
+    }
+}
+
+impl InCents for i16 {
+    // A value of two groups, in 8,192nds of a semitone.
+    fn put_cents(self, out: &mut Output) {
+        cents::decimals(out, cents::in_cents(signed_2(self), 8192));
+    }
 }
 
 // The fine tuning of a WAV map, where every field has a line.
@@ -150,70 +156,31 @@ pub fn fine(out: &mut Output, style: Style, v: i16) {
         Style::Line => {}
         Style::Lines => {
             say(out, b"fine tuning: ");
-            put_cents_2(out, v);
+            v.put_cents(out);
+            say(out, b" cents\n");
         }
     }
 }
 
-// A line for a note of a scale of one byte a note.
-fn note_1(out: &mut Output, note: u8, v: i8) {
+// A line for a note of a scale.
+fn note<V: InCents>(out: &mut Output, note: u8, v: V) {
     names::note(out, note);
     say(out, b": ");
-    cents::whole(out, signed_1(v));
+    v.put_cents(out);
     say(out, b" cents\n");
 }
 
-// A line for a note of a scale of two bytes a note.
-fn note_2(out: &mut Output, note: u8, v: i16) {
-    names::note(out, note);
-    say(out, b": ");
-    put_cents_2(out, v);
-}
-
-// The twelve lines of a scale of one byte a note.
-fn notes_1(out: &mut Output, t: Scale1Byte) {
-    note_1(out, 0, t.c);
-    note_1(out, 1, t.c_sharp);
-    note_1(out, 2, t.d);
-    note_1(out, 3, t.d_sharp);
-    note_1(out, 4, t.e);
-    note_1(out, 5, t.f);
-    note_1(out, 6, t.f_sharp);
-    note_1(out, 7, t.g);
-    note_1(out, 8, t.g_sharp);
-    note_1(out, 9, t.a);
-    note_1(out, 10, t.a_sharp);
-    note_1(out, 11, t.b);
-}
-
-// The twelve lines of a scale of two bytes a note.
-fn notes_2(out: &mut Output, t: Scale2Byte) {
-    note_2(out, 0, t.c);
-    note_2(out, 1, t.c_sharp);
-    note_2(out, 2, t.d);
-    note_2(out, 3, t.d_sharp);
-    note_2(out, 4, t.e);
-    note_2(out, 5, t.f);
-    note_2(out, 6, t.f_sharp);
-    note_2(out, 7, t.g);
-    note_2(out, 8, t.g_sharp);
-    note_2(out, 9, t.a);
-    note_2(out, 10, t.a_sharp);
-    note_2(out, 11, t.b);
-}
-
-// The twelve lines, where every field has a line.
-pub fn scale_1(out: &mut Output, style: Style, t: Scale1Byte) {
-    match style {
-        Style::Line => {}
-        Style::Lines => notes_1(out, t),
+// A line for each note of a scale.
+fn notes<V: InCents>(out: &mut Output, values: &[V]) {
+    for (n, v) in (0..12).zip(values) {
+        note(out, n, *v);
     }
 }
 
-// The twelve lines, where every field has a line.
-pub fn scale_2(out: &mut Output, style: Style, t: Scale2Byte) {
+// A line for each note of a scale, C first, where every field has a line.
+pub(crate) fn scale<V: InCents>(out: &mut Output, style: Style, values: &[V]) {
     match style {
         Style::Line => {}
-        Style::Lines => notes_2(out, t),
+        Style::Lines => notes(out, values),
     }
 }

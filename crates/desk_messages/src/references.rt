@@ -1,18 +1,10 @@
 // File references in words.
-use super::lists;
+use super::words::Words;
+use super::{Beside, lists, words};
+use desk_print::fields;
 use desk_print::fields::Style;
 use desk_print::output::Output;
-use desk_print::{fields, say};
 use messages::file_reference::{FileReferenceMsg, FileReferenceType, SelectMap, WAVMap};
-
-// The name of a file type.
-fn put_type(out: &mut Output, t: FileReferenceType) {
-    match t {
-        FileReferenceType::DLS => say(out, b"DLS"),
-        FileReferenceType::SF2 => say(out, b"SF2"),
-        FileReferenceType::WAV => say(out, b"WAV"),
-    }
-}
 
 // The map of a WAV file.
 fn wav_map(out: &mut Output, style: Style, m: WAVMap) {
@@ -62,14 +54,12 @@ fn opened(
 ) {
     fields::title(out, style, title);
     fields::named(out, style, b"context", ctx as u64);
-    fields::begin(out, style, b"type");
-    put_type(out, t);
-    fields::end(out, style);
+    words::field(out, style, b"type", t.words());
     fields::name(out, style, b"URL", url);
 }
 
 // A file reference in words.
-pub fn reference(out: &mut Output, style: Style, m: FileReferenceMsg, text: &[u8], places: usize) {
+pub fn reference(out: &mut Output, style: Style, m: FileReferenceMsg, beside: Beside) {
     match m {
         FileReferenceMsg::Open { ctx, file_type } => opened(
             out,
@@ -77,12 +67,12 @@ pub fn reference(out: &mut Output, style: Style, m: FileReferenceMsg, text: &[u8
             b"sound file open",
             ctx,
             file_type,
-            text,
+            beside.text,
         ),
         FileReferenceMsg::SelectContents { ctx, map } => {
             fields::title(out, style, b"sound file select");
             fields::named(out, style, b"context", ctx as u64);
-            select_map(out, style, map, places);
+            select_map(out, style, map, beside.places);
         }
         FileReferenceMsg::OpenSelectContents {
             ctx,
@@ -95,9 +85,9 @@ pub fn reference(out: &mut Output, style: Style, m: FileReferenceMsg, text: &[u8
                 b"sound file open and select",
                 ctx,
                 file_type,
-                text,
+                beside.text,
             );
-            select_map(out, style, map, places);
+            select_map(out, style, map, beside.places);
         }
         FileReferenceMsg::Close { ctx } => {
             fields::title(out, style, b"sound file close");

@@ -1,4 +1,5 @@
 // Refusals in words, for a player.
+use super::words::Words;
 use desk_print::output::Output;
 use desk_print::{hex, say};
 use util::groups::at;
@@ -17,35 +18,33 @@ pub fn sums(out: &mut Output, frame: &[u8]) {
     hex(out, util::checksum::checksum(&frame[1..e]));
 }
 
-// Puts why bytes are no frame.
-pub fn refusal(out: &mut Output, r: Refusal) {
-    match r {
-        Refusal::Shape => say(out, b"no message: too short, or a byte above 7F inside"),
-        Refusal::Head => say(out, b"another kind of message: not one that the desk reads"),
-        Refusal::Field => say(
-            out,
-            b"damaged: a field has a value or a length that it cannot have",
-        ),
-        Refusal::Sum => say(out, b"damaged: wrong sum"),
-        Refusal::Hold => say(out, b"too long for the desk"),
-        Refusal::High => say(out, b"a name has a character above 7F"),
-        Refusal::Long => say(out, b"a name or a list is too long"),
-        Refusal::Value => say(out, b"a number is too large"),
-        Refusal::Kind => say(out, b"a map is of the other kind of sound file"),
-        Refusal::Space => say(out, b"no room for the frame"),
-        Refusal::Stream => say(out, b"more than 65,535 bytes at once"),
-        Refusal::Index => say(out, b"too many frames at once"),
-        Refusal::UnexpectedEnd => say(out, b"the reply ends too early"),
-        Refusal::ByteOverflow => say(out, b"a byte above 7F in the reply"),
-        Refusal::NotImplemented => say(out, b"no identity reply"),
+// Why bytes are no frame.
+impl Words for Refusal {
+    fn words(self) -> &'static [u8] {
+        match self {
+            Refusal::Shape => b"no message: too short, or a byte above 7F inside",
+            Refusal::Head => b"another kind of message: not one that the desk reads",
+            Refusal::Field => b"damaged: a field has a value or a length that it cannot have",
+            Refusal::Sum => b"damaged: wrong sum",
+            Refusal::Hold => b"too long for the desk",
+            Refusal::High => b"a name has a character above 7F",
+            Refusal::Long => b"a name or a list is too long",
+            Refusal::Value => b"a number is too large",
+            Refusal::Kind => b"a map is of the other kind of sound file",
+            Refusal::Space => b"no room for the frame",
+            Refusal::Stream => b"more than 65,535 bytes at once",
+            Refusal::Index => b"too many frames at once",
+            Refusal::UnexpectedEnd => b"the reply ends too early",
+            Refusal::ByteOverflow => b"a byte above 7F in the reply",
+            Refusal::NotImplemented => b"no identity reply",
+        }
     }
 }
 
 // Puts why a frame is refused; with its two sums where its sum is wrong.
 pub fn explain(out: &mut Output, frame: &[u8], r: Refusal) {
-    refusal(out, r);
-    match r {
-        Refusal::Sum => sums(out, frame),
-        _ => {}
+    say(out, r.words());
+    if let Refusal::Sum = r {
+        sums(out, frame);
     }
 }

@@ -1,70 +1,23 @@
 // Sample dumps in words.
+use super::words::Words;
+use super::{lists, words};
+use desk_print::fields;
 use desk_print::fields::Style;
 use desk_print::output::Output;
-use desk_print::{fields, hex_all, say};
-use messages::sample_dump::{
-    ExtendedLoopType, ExtendedSampleDumpMsg, LoopNumber, LoopType, SampleDumpMsg,
-};
-
-// The words of a loop type.
-fn put_loop(out: &mut Output, t: LoopType) {
-    match t {
-        LoopType::Forward => say(out, b"forward"),
-        LoopType::BiDirectional => say(out, b"forward and backward"),
-        LoopType::Off => say(out, b"off"),
-    }
-}
-
-// The words of an extended loop type.
-fn put_extended_loop(out: &mut Output, t: ExtendedLoopType) {
-    match t {
-        ExtendedLoopType::Forward => say(out, b"forward"),
-        ExtendedLoopType::BiDirectional => say(out, b"forward and backward"),
-        ExtendedLoopType::ForwardRelease => say(out, b"forward, with release"),
-        ExtendedLoopType::BiDirectionalRelease => say(out, b"forward and backward, with release"),
-        ExtendedLoopType::Backward => say(out, b"backward"),
-        ExtendedLoopType::BackwardBiDirectional => say(out, b"backward and forward"),
-        ExtendedLoopType::BackwardRelease => say(out, b"backward, with release"),
-        ExtendedLoopType::BackwardBiDirectionalRelease => say(
-            out,
-            b"backward and forward, with release",
-        ),
-        ExtendedLoopType::BackwardOneShot => say(out, b"backward once"),
-        ExtendedLoopType::OneShot => say(out, b"forward once"),
-    }
-}
+use messages::sample_dump::{ExtendedSampleDumpMsg, LoopNumber, SampleDumpMsg};
 
 // The number of a loop, or all loops.
 fn loop_number(out: &mut Output, style: Style, n: LoopNumber) {
     match n {
         LoopNumber::Loop(k) => fields::named(out, style, b"loop", k as u64),
-        LoopNumber::RequestAll => {
-            fields::begin(out, style, b"loop");
-            say(out, b"all");
-            fields::end(out, style);
-        }
-        LoopNumber::DeleteAll => {
-            fields::begin(out, style, b"loop");
-            say(out, b"all, to be deleted");
-            fields::end(out, style);
-        }
+        LoopNumber::RequestAll => words::field(out, style, b"loop", b"all"),
+        LoopNumber::DeleteAll => words::field(out, style, b"loop", b"all, to be deleted"),
     }
 }
 
-// A loop with its two addresses.
-fn loop_points(out: &mut Output, style: Style, t: LoopType, start: u64, end: u64) {
-    fields::begin(out, style, b"loop type");
-    put_loop(out, t);
-    fields::end(out, style);
-    fields::named(out, style, b"loop start", start);
-    fields::named(out, style, b"loop end", end);
-}
-
-// An extended loop with its two addresses.
-fn extended_points(out: &mut Output, style: Style, t: ExtendedLoopType, start: u64, end: u64) {
-    fields::begin(out, style, b"loop type");
-    put_extended_loop(out, t);
-    fields::end(out, style);
+// The words of a loop's type, and its two addresses.
+fn loop_points(out: &mut Output, style: Style, kind: &[u8], start: u64, end: u64) {
+    words::field(out, style, b"loop type", kind);
     fields::named(out, style, b"loop start", start);
     fields::named(out, style, b"loop end", end);
 }
@@ -73,11 +26,7 @@ fn extended_points(out: &mut Output, style: Style, t: ExtendedLoopType, start: u
 fn sample_bytes(out: &mut Output, style: Style, s: &[u8]) {
     match style {
         Style::Line => {}
-        Style::Lines => {
-            say(out, b"data:");
-            hex_all(out, s);
-            say(out, b"\n");
-        }
+        Style::Lines => lists::data(out, s),
     }
 }
 
@@ -108,7 +57,7 @@ fn header(out: &mut Output, style: Style, m: SampleDumpMsg) {
     loop_points(
         out,
         style,
-        loop_type,
+        loop_type.words(),
         sustain_loop_start as u64,
         sustain_loop_end as u64,
     );
@@ -133,7 +82,13 @@ pub fn sample(out: &mut Output, style: Style, m: SampleDumpMsg, text: &[u8]) {
         } => {
             titled(out, style, b"loop points", sample_num);
             loop_number(out, style, loop_num);
-            loop_points(out, style, loop_type, start_addr as u64, end_addr as u64);
+            loop_points(
+                out,
+                style,
+                loop_type.words(),
+                start_addr as u64,
+                end_addr as u64,
+            );
         }
         SampleDumpMsg::LoopPointsRequest {
             sample_num,
@@ -173,7 +128,13 @@ fn extended_header(out: &mut Output, style: Style, m: ExtendedSampleDumpMsg) {
     );
     fields::counted(out, style, b"channels", channels, b"channel");
     fields::counted(out, style, b"length", length, b"word");
-    extended_points(out, style, loop_type, sustain_loop_start, sustain_loop_end);
+    loop_points(
+        out,
+        style,
+        loop_type.words(),
+        sustain_loop_start,
+        sustain_loop_end,
+    );
 }
 
 // An extended sample dump in words.
@@ -199,7 +160,7 @@ pub fn extended(out: &mut Output, style: Style, m: ExtendedSampleDumpMsg, text: 
         } => {
             titled(out, style, b"extended loop points", sample_num);
             loop_number(out, style, loop_num);
-            extended_points(out, style, loop_type, start_addr, end_addr);
+            loop_points(out, style, loop_type.words(), start_addr, end_addr);
         }
         ExtendedSampleDumpMsg::LoopPointsRequest {
             sample_num,

@@ -2,7 +2,7 @@
 use desk_print::fields::Style;
 use desk_print::output::Output;
 use desk_print::{fields, hex, number, say};
-use messages::system_exclusive::{DeviceID, IdentityReply, ManufacturerID, SoftwareRevision};
+use messages::system_exclusive::{DeviceID, IdentityReply, ManufacturerID};
 
 // A device: its number, or all.
 pub fn put_device(out: &mut Output, d: DeviceID) {
@@ -32,27 +32,25 @@ fn put_maker(out: &mut Output, id: ManufacturerID) {
 }
 
 // The four numbers of a revision.
-fn put_revision(out: &mut Output, r: SoftwareRevision) {
-    number(out, r.first as u64);
+fn put_revision(out: &mut Output, r: (u8, u8, u8, u8)) {
+    number(out, r.0 as u64);
     say(out, b".");
-    number(out, r.second as u64);
+    number(out, r.1 as u64);
     say(out, b".");
-    number(out, r.third as u64);
+    number(out, r.2 as u64);
     say(out, b".");
-    number(out, r.fourth as u64);
+    number(out, r.3 as u64);
 }
 
 // An identity reply in words.
 pub fn identity(out: &mut Output, style: Style, m: IdentityReply) {
-    let id = m.id;
-    let revision = m.software_revision;
     fields::title(out, style, b"identity reply");
     fields::begin(out, style, b"maker");
-    put_maker(out, id);
+    put_maker(out, m.id);
     fields::end(out, style);
     fields::named(out, style, b"family", m.family as u64);
     fields::named(out, style, b"member", m.family_member as u64);
     fields::begin(out, style, b"revision");
-    put_revision(out, revision);
+    put_revision(out, m.software_revision);
     fields::end(out, style);
 }

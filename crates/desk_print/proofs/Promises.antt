@@ -8,8 +8,7 @@ use native.Mathlib.Nat.{eq-or-lt_of_le, le_of_suc-le-suc}
 use native.Mathlib.Omega.{arith}
 use borrow.Author.Tests.{eqb-true}
 use lib.Dec.{eqb}
-use Rattle.desk_text.specs.declared.Number.{Number}
-use Rattle.desk_text.specs.declared.Number.TheVariants.{Is, Nothing}
+use Rattle.std.specs.Prelude.{Option, Some, None}
 use Rattle.desk_text.specs.Decimal.{after, number_of}
 use Rattle.desk_text.specs.Spans.{is_digit}
 use Rattle.desk_text.specs.Keys.{capital, semitone, shift, octave, within_keys, key_at, named_of, octave_part, name_of, key_or_name, key_of}
@@ -17,9 +16,9 @@ use Rattle.desk_text.proofs.Laws.Digits.{and_left, and_right}
 use Rattle.desk_print.specs.Text.{decimal, decimal_of, note_name, key_name}
 use Rattle.desk_print.specs.Promises.{NamesBack}
 
-abbrev is_number : Number → ℕ → Bool
-is_number (Is n) k = eqb n k
-is_number Nothing k = false
+abbrev is_number : Option ℕ → ℕ → Bool
+is_number (Some n) k = eqb n k
+is_number None k = false
 
 -- whether a test passes at each number below another
 abbrev all_below : ℕ → (ℕ → Bool) → Bool
@@ -34,9 +33,9 @@ at_each (suc n) f h k l =
     (λ m. at_each n f (and_right (f n) (all_below n f) h) k m)
     (eq-or-lt_of_le (le_of_suc-le-suc l))
 
-from_number : (x : Number) (k : ℕ) → is_number x k ≡ true → x ≡ Is k
-from_number (Is n) k h = ap Is (eqb-true n k h)
-from_number Nothing k h = let z : ◌≡◌ {A = ℕ} 0 1 = cc in absurd (omega arith)
+from_number : (x : Option ℕ) (k : ℕ) → is_number x k ≡ true → x ≡ Some k
+from_number (Some n) k h = ap Some (eqb-true n k h)
+from_number None k h = let z : ◌≡◌ {A = ℕ} 0 1 = cc in absurd (omega arith)
 
 abbrev reads_back : ℕ → Bool
 reads_back k = is_number (key_of (key_name k)) k

@@ -6,14 +6,14 @@ use mathlib.Core.List.{List, [], ◌∷◌, ◌++◌, append_assoc, append-nil}
 use Prim.Native.Nat.{ℕ, zero, suc, ◌+◌, ◌-◌, ◌*◌, ◌/◌, ◌%◌, ◌^◌, ◌≤◌, ◌<◌}
 use native.Mathlib.Nat.{pow-suc, div-lt_iff_lt-mul, zero-lt-suc}
 use native.Mathlib.Omega.{arith}
-use lib.Dec.{eqb, ltb}
+use lib.Dec.{ltb}
 use lib.ListN.{length, take, get_or}
 use lib.Seq.{take-suc, take_all}
-use borrow.Author.Tests.{lt-ltb, le-ltb, le-leb, lt-leb, ne_eqb}
+use borrow.Author.Tests.{lt-ltb, le-ltb, ne_eqb}
 use Rattle.io.specs.Digits.{last_digits as digits, IsDigitCount}
 use Rattle.util.specs.Pick.{pick}
-use Rattle.desk_print.specs.Output.{Put}
-use Rattle.desk_print.specs.Text.{last_digits, decimal_of, decimal, with_commas_of, with_commas, hex_digit_of, each, escaped, name_char, is_control_of, path_char, unless_last_space, trimmed, note_name, octave}
+use Rattle.desk_print.specs.Output.{Gathering, Put}
+use Rattle.desk_print.specs.Text.{last_digits, decimal_of, decimal, with_commas_of, with_commas, each, escaped, name_char, is_control_of, path_char, unless_last_space, trimmed, octave}
 use Rattle.desk_print.proofs.Laws.{put_put, put_none, put_as}
 
 -- ---- numbers
@@ -69,12 +69,6 @@ four_as n p = rw p (four_is n)
 
 -- ---- bytes
 
-pub hex_low : (n : ℕ) → n < 10 → 48 + n ≡ hex_digit_of n
-hex_low n h = rw (lt-ltb n 10 h)
-
-pub hex_high : (n : ℕ) → 10 ≤ n → 55 + n ≡ hex_digit_of n
-hex_high n h = rw (le-ltb n 10 h)
-
 pub both_as : {a b c d : ℕ} → a ≡ c → b ≡ d → a ∷ b ∷ [] ≡ c ∷ d ∷ []
 both_as p q = rw (p, q)
 
@@ -90,15 +84,15 @@ each_more f p (b ∷ s) (suc i) h =
 -- ---- a loop that puts the text of each byte
 
 module _ (f : ℕ → ℕ → List ℕ) (s : List ℕ) where
-  pub each_begin : (o : List ℕ) → Put o (each f 0 (take 0 s)) o
+  pub each_begin : (o : Gathering) → Put o (each f 0 (take 0 s)) o
   unfolding each
   each_begin o = put_none o
 
-  pub each_turn : {o a b : List ℕ} (i : ℕ) → i < length s → Put o (each f 0 (take i s)) a → Put a (f (get_or (0 ∷ s) i 0) (get_or s i 0)) b
+  pub each_turn : {o a b : Gathering} (i : ℕ) → i < length s → Put o (each f 0 (take i s)) a → Put a (f (get_or (0 ∷ s) i 0) (get_or s i 0)) b
       → Put o (each f 0 (take (i + 1) s)) b
   each_turn i h p q = put_as (sym (each_more f 0 s i h)) (put_put p q)
 
-  pub each_end : {o a : List ℕ} (i : ℕ) → length s ≤ i → Put o (each f 0 (take i s)) a → Put o (each f 0 s) a
+  pub each_end : {o a : Gathering} (i : ℕ) → length s ≤ i → Put o (each f 0 (take i s)) a → Put o (each f 0 s) a
   each_end i h p = put_as (ap (each f 0) (take_all i s h)) p
 
 -- ---- characters
@@ -109,42 +103,10 @@ char_low p b h = rw (lt-ltb b 32 h)
 pub char_high : (p b : ℕ) → 32 ≤ b → 126 < b → escaped b ≡ name_char p b
 char_high p b h g = rw (le-ltb b 32 h, lt-ltb 126 b g)
 
-pub char_plain : (p b : ℕ) → 32 ≤ b → b ≤ 126 → b ∷ [] ≡ name_char p b
-char_plain p b h g = rw (le-ltb b 32 h, le-ltb 126 b g)
-
-pub control_low : (p b : ℕ) → b < 32 → true ≡ is_control_of p b
-control_low p b h = rw (lt-ltb b 32 h)
-
-pub control_delete : (p b : ℕ) → b ≡ 127 → true ≡ is_control_of p b
-control_delete p b e = rw e
-
-module _ (p b : ℕ) (h : 32 ≤ b) (n : b ≡ 127 → ⊥) where
-  pub not_control_low : b < 128 → false ≡ is_control_of p b
-  not_control_low g = rw (le-ltb b 32 h, ne_eqb b 127 n, lt-leb 128 b g)
-
-  pub not_control_high : 159 < b → false ≡ is_control_of p b
-  not_control_high g = rw (le-ltb b 32 h, ne_eqb b 127 n, le-leb 128 b (omega arith), le-ltb b 160 (omega arith))
-
-  pub control_second : 128 ≤ b → b ≤ 159 → eqb p 0xC2 ≡ is_control_of p b
-  control_second g l = rw (le-ltb b 32 h, ne_eqb b 127 n, le-leb 128 b g, lt-ltb b 160 (omega arith))
-
-pub get_or_before : (s : List ℕ) (i : ℕ) → 0 < i → get_or (0 ∷ s) i 0 ≡ get_or s (i - 1) 0
-get_or_before s zero h = absurd (omega arith)
-get_or_before s (suc i) h = let e : suc i - 1 ≡ i = omega arith in rw e
-
 pub path_escaped : {x b : ℕ} {r : Bool} (p : ℕ) → x ≡ b → r ≡ is_control_of p b → r ≡ true → escaped x ≡ path_char p b
 path_escaped {x} {b} {r} p e q t = ap escaped e ∙ ap (λ (z : Bool). pick z (escaped b) (b ∷ [])) (sym t ∙ q)
 
-pub path_plain : {x b : ℕ} {r : Bool} (p : ℕ) → x ≡ b → r ≡ is_control_of p b → r ≡ false → x ∷ [] ≡ path_char p b
-path_plain {x} {b} {r} p e q t = ap (λ (y : ℕ). y ∷ []) e ∙ ap (λ (z : Bool). pick z (escaped b) (b ∷ [])) (sym t ∙ q)
-
 -- ---- keys
-
-pub note_last : (n : ℕ) → (n ≡ 0 → ⊥) → (n ≡ 1 → ⊥) → (n ≡ 2 → ⊥) → (n ≡ 3 → ⊥) → (n ≡ 4 → ⊥) → (n ≡ 5 → ⊥) → (n ≡ 6 → ⊥) → (n ≡ 7 → ⊥)
-    → (n ≡ 8 → ⊥) → (n ≡ 9 → ⊥) → (n ≡ 10 → ⊥) → 66 ∷ [] ≡ note_name n
-unfolding note_name
-note_last n a b c d e f g h i j k =
-    rw (ne_eqb n 0 a, ne_eqb n 1 b, ne_eqb n 2 c, ne_eqb n 3 d, ne_eqb n 4 e, ne_eqb n 5 f, ne_eqb n 6 g, ne_eqb n 7 h, ne_eqb n 8 i, ne_eqb n 9 j, ne_eqb n 10 k)
 
 pub octave_low : (k : ℕ) → k < 12 → 45 ∷ 49 ∷ [] ≡ octave k
 octave_low k h = rw (lt-ltb k 12 h)
@@ -183,10 +145,6 @@ module _ (s : List ℕ) (n : ℕ) (p : 0 < n) (h : n ≤ length s) where
 
   pub trimmed_here : (get_or s (n - 1) 0 ≡ 32 → ⊥) → trimmed (take n s) ≡ trimmed s → take n s ≡ trimmed s
   trimmed_here e t = last_apart ∙ sym (trimmed_other (take (n - 1) s) (get_or s (n - 1) 0) e) ∙ ap trimmed (sym last_apart) ∙ t
-
-pub trimmed_none : (s : List ℕ) (n : ℕ) → n ≡ 0 → trimmed (take n s) ≡ trimmed s → take n s ≡ trimmed s
-unfolding trimmed
-trimmed_none s n z t = ap (λ (k : ℕ). take k s) z ∙ ap (λ (k : ℕ). trimmed (take k s)) (sym z) ∙ t
 
 -- ---- commas
 

@@ -25,6 +25,7 @@ fn put_sign(out: &mut Output, is_below: bool)
 }
 
 // Puts a signed whole number.
+#[tactic(auto, using(crate::proofs::Laws::put_put))]
 pub fn whole(out: &mut Output, v: Signed)
     ensures { Put out.old (signed v.is_below v.amount) out.new }
 {
@@ -46,15 +47,9 @@ pub fn decimals(out: &mut Output, v: Signed)
 pub fn difference(from: u64, to: u64) -> Signed
     ensures { (result.is_below ≡ ltb to from) × (result.amount ≡ (from - to) + (to - from)) }
 {
-    if to < from {
-        return Signed {
-            is_below: true,
-            amount: from - to,
-        };
-    }
     Signed {
-        is_below: false,
-        amount: to - from,
+        is_below: to < from,
+        amount: from.abs_diff(to),
     }
 }
 

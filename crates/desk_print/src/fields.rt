@@ -1,4 +1,5 @@
 // The fields of a message: the main ones in one line, or every field a line.
+// Kept as an output and a style beside one another: a struct that lends the output is no plainer, since between fields lists and names are put on it.
 use super::output::Output;
 use super::{grouped, names, say, units};
 
@@ -21,13 +22,15 @@ pub fn title(out: &mut Output, style: Style, name: &[u8]) {
     }
 }
 
-// Begins a field that is named in a line too.
-pub fn begin(out: &mut Output, style: Style, label: &[u8]) {
+// Begins a field: in a line behind a mark, with its name or without, and else a line with its name.
+fn begin_behind(out: &mut Output, style: Style, mark: &[u8], label: &[u8], is_named: bool) {
     match style {
         Style::Line => {
-            say(out, b", ");
-            say(out, label);
-            say(out, b" ");
+            say(out, mark);
+            if is_named {
+                say(out, label);
+                say(out, b" ");
+            }
         }
         Style::Lines => {
             say(out, label);
@@ -36,15 +39,14 @@ pub fn begin(out: &mut Output, style: Style, label: &[u8]) {
     }
 }
 
+// Begins a field that is named in a line too.
+pub fn begin(out: &mut Output, style: Style, label: &[u8]) {
+    begin_behind(out, style, b", ", label, true);
+}
+
 // Begins a field that is not named in a line.
 pub fn begin_plain(out: &mut Output, style: Style, label: &[u8]) {
-    match style {
-        Style::Line => say(out, b", "),
-        Style::Lines => {
-            say(out, label);
-            say(out, b": ");
-        }
-    }
+    begin_behind(out, style, b", ", label, false);
 }
 
 // Ends a field.
@@ -79,13 +81,7 @@ pub fn counted(out: &mut Output, style: Style, label: &[u8], n: u64, unit: &[u8]
 
 // Begins a field that follows the words before it without a comma.
 pub fn begin_close(out: &mut Output, style: Style, label: &[u8]) {
-    match style {
-        Style::Line => say(out, b" "),
-        Style::Lines => {
-            say(out, label);
-            say(out, b": ");
-        }
-    }
+    begin_behind(out, style, b" ", label, false);
 }
 
 // A name in quotes.
@@ -104,17 +100,7 @@ pub fn close(out: &mut Output, style: Style, label: &[u8], n: u64) {
 
 // A number that is named behind the title.
 pub fn first(out: &mut Output, style: Style, label: &[u8], n: u64) {
-    match style {
-        Style::Line => {
-            say(out, b" ");
-            say(out, label);
-            say(out, b" ");
-        }
-        Style::Lines => {
-            say(out, label);
-            say(out, b": ");
-        }
-    }
+    begin_behind(out, style, b" ", label, true);
     grouped(out, n);
     end(out, style);
 }

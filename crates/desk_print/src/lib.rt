@@ -28,6 +28,7 @@ pub fn say(out: &mut Output, text: &[u8]) {
 pub fn number(out: &mut Output, n: u64)
     ensures { Put out.old (decimal n) out.new }
 {
+    // Kept in place of write!, which is no plainer: it answers a Result, and a text that is put cannot fail.
     let mut text = [0u8; 20];
     let k = io::decimal(n, &mut text);
     put(out, &text[..k]);
@@ -42,6 +43,7 @@ fn digit(n: u64) -> u8
 }
 
 // Puts the last three digits of a number.
+#[tactic(auto, using(crate::proofs::Laws::put_as, crate::proofs::Texts::three_as))]
 fn three(out: &mut Output, n: u64)
     ensures { Put out.old (last_digits 3 n) out.new }
 {
@@ -97,6 +99,7 @@ fn hex_digit(n: u8) -> u8
 }
 
 // Puts a byte as two hexadecimal digits.
+#[tactic(auto, using(crate::proofs::Laws::put_as))]
 pub fn hex(out: &mut Output, b: u8)
     ensures { Put out.old (hex_of b) out.new }
 {
@@ -107,10 +110,8 @@ pub fn hex(out: &mut Output, b: u8)
 pub fn hex_all(out: &mut Output, s: &[u8])
     ensures { Put out.old (hex_all_of s.now) out.new }
 {
-    let mut i = 0;
-    while i < s.len() {
+    for b in s {
         put(out, b" ");
-        hex(out, s[i]);
-        i += 1;
+        hex(out, *b);
     }
 }

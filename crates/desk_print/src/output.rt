@@ -1,40 +1,49 @@
 // Standard output, gathered and written out in large pieces; error lines, each behind what was put before it.
-ghost use Rattle.std.specs.Prelude.{◌≡◌, ℕ, List, [], ◌∷◌, ◌++◌, ◌+◌, ◌≤◌, ◌<◌, eqb, not, length, get_or, set};
-ghost use Rattle.desk_print.specs.Output.{count_of, gathered, Sound, Fresh, Put, Counted, Failed, Tried, Flushed, Added};
+ghost use Rattle.std.specs.Prelude.{◌≡◌, [], ◌∷◌, ◌++◌};
+ghost use Rattle.desk_print.specs.Output.{Gathering, gathered, Sound, Fresh, Put, Failed, Tried, Flushed, Added};
 ghost use Rattle.desk_print.specs.Text.{path_of};
-ghost use Rattle.util.specs.Splice.{splice};
 
 use super::{names, number, put};
+use arrayvec::ArrayVec;
 use std::io::Write;
 use std::marker::Model;
 
 // The bytes that are gathered at most.
 pub const ROOM: usize = 65535;
 
-// The gathered bytes; behind them two bytes that say how many there are, one that is not 0 once a write has failed, and one that names the
-// file of error lines. Contracts see these bytes alone; beside them stands the system, whose standard output and standard error they go to.
+// An open file that text is written to.
+#[derive(Clone, Copy)]
+pub enum Stream {
+    Stdout,
+    Stderr,
+}
+
+// The gathered bytes, whether a write has failed, and where error lines go. Contracts see the first two; beside them stands the system, whose
+// standard output and standard error the bytes go to.
 #[derive(Drop)]
 pub struct Output {
-    room: [u8; 65539],
+    text: ArrayVec<u8, ROOM>,
+    is_failed: bool,
+    errors: Stream,
     rt: HostRuntime,
 }
 
 impl Model for Output {
-    ghost Value = { List ℕ };
+    ghost Value = { Gathering };
 
-    ghost view = { λ o. o.room };
-
-    ghost invariant = { λ o. length o.room ≡ 65539 };
+    ghost view = { λ o. record { text = o.text.items; is_failed = o.is_failed } };
 }
 
 // An output with nothing gathered; error lines go to an open file.
-pub fn new(rt: HostRuntime, errors: u8) -> Output
-    ensures value { 65539 ≡ length result }
-    ensures fresh { Fresh result }
+pub fn new(rt: HostRuntime, errors: Stream) -> Output
+    ensures { Fresh result }
 {
-    let mut room = [0; 65539];
-    room[65538] = errors;
-    Output { room, rt }
+    Output {
+        text: ArrayVec::new(),
+        is_failed: false,
+        errors,
+        rt,
+    }
 }
 
 // The system that an output writes to.
@@ -42,88 +51,40 @@ pub fn runtime(out: &Output) -> HostRuntime {
     out.rt
 }
 
-// A byte as a wider number.
-fn wide(x: u8) -> usize
-    ensures { (result ≡ x) × (result ≤ 255) }
-{
-    x as usize
-}
-
-// How many bytes are gathered.
-fn count(out: &Output) -> usize
-    ensures { (result ≡ count_of out.now) × (result ≤ 65535) }
-{
-    wide(out.room[65535]) + wide(out.room[65536]) * 256
-}
-
-// Stores a byte at a place.
-fn store(room: &mut [u8], at: usize, b: u8)
-    requires { at < length room.old }
-    ensures { room.new ≡ set room.old at b }
-{
-    room[at] = b;
-}
-
-// Says how many bytes are gathered.
-fn set_count(out: &mut Output, n: usize)
-    requires { n ≤ 65535 }
-    ensures { Counted out.old n out.new }
-{
-    store(&mut out.room, 65535, (n % 256) as u8);
-    store(&mut out.room, 65536, (n / 256) as u8);
-}
-
 // Whether a write has failed.
 pub fn is_failed(out: &Output) -> bool
-    ensures { result ≡ not (eqb (get_or out.now 65537 0) 0) }
+    ensures { result ≡ out.now.is_failed }
 {
-    out.room[65537] != 0
-}
-
-// An open file that text is written to.
-#[derive(Clone, Copy)]
-enum To {
-    Stdout,
-    Stderr,
-}
-
-// The open file of error lines.
-fn errors(out: &Output) -> To {
-    if out.room[65538] == 1 {
-        To::Stdout
-    } else {
-        To::Stderr
-    }
+    out.is_failed
 }
 
 // Writes bytes to an open file; whether they are written.
-fn write_all(to: To, out: &Output, text: &[u8]) -> bool {
+fn write_all(to: Stream, out: &Output, text: &[u8]) -> bool {
     match to {
-        To::Stdout => out.rt.stdout().write_all(text).is_ok(),
-        To::Stderr => out.rt.stderr().write_all(text).is_ok(),
+        Stream::Stdout => out.rt.stdout().write_all(text).is_ok(),
+        Stream::Stderr => out.rt.stderr().write_all(text).is_ok(),
     }
 }
 
 // Writes a text, which is all that is gathered, to an open file.
-fn write_text(to: To, out: &Output, text: &[u8]) -> bool
+fn write_text(to: Stream, out: &Output, text: &[u8]) -> bool
     requires { text.now ≡ gathered out.now }
 {
     write_all(to, out, text)
 }
 
 // Writes what is gathered to an open file.
-fn write_gathered(to: To, out: &Output) -> bool {
-    let n = count(out);
-    write_text(to, out, util::bytes::sub_slice(&out.room, 0, n))
+fn write_gathered(to: Stream, out: &Output) -> bool {
+    write_text(to, out, out.text.as_slice())
 }
 
 // Remembers that a write has failed, and says so.
 pub fn fail(out: &mut Output)
     ensures { Failed out.old out.new }
 {
-    store(&mut out.room, 65537, 1);
+    out.is_failed = true;
     write_all(
-        errors(out),
+        out.errors,
         out,
         b"standard output: cannot be written (is the disk full?)\n",
     );
@@ -136,7 +97,7 @@ fn write_out(out: &mut Output)
     if is_failed(out) {
         return;
     }
-    if !write_gathered(To::Stdout, out) {
+    if !write_gathered(Stream::Stdout, out) {
         fail(out);
     }
 }
@@ -146,28 +107,14 @@ pub fn flush(out: &mut Output)
     ensures { Flushed out.old out.new }
 {
     write_out(out);
-    set_count(out, 0);
-}
-
-// Puts bytes at a place.
-fn place(room: &mut [u8], at: usize, text: &[u8])
-    requires { at + length text.now ≤ length room.old }
-    ensures { room.new ≡ splice room.old at text.now }
-{
-    util::bytes::copy(&mut room[at..], text);
+    out.text.clear();
 }
 
 // Gathers bytes behind those that are there, where there is room; whether there is.
 fn gather(out: &mut Output, text: &[u8]) -> bool
     ensures { Tried out.old text.now out.new result }
 {
-    let n = count(out);
-    if ROOM - n < text.len() {
-        return false;
-    }
-    place(&mut out.room, n, text);
-    set_count(out, n + text.len());
-    true
+    out.text.try_extend_from_slice(text).is_ok()
 }
 
 // Writes out bytes that are too many to be gathered.
@@ -178,7 +125,7 @@ fn send(out: &mut Output, text: &[u8])
     if is_failed(out) {
         return;
     }
-    if !write_all(To::Stdout, out, text) {
+    if !write_all(Stream::Stdout, out, text) {
         fail(out);
     }
 }
@@ -208,7 +155,7 @@ pub fn begin_line(out: &mut Output, what: &[u8])
 // Writes what is gathered to the file of error lines, unless a write has failed.
 fn write_line(out: &Output) {
     if !is_failed(out) {
-        write_gathered(errors(out), out);
+        write_gathered(out.errors, out);
     }
 }
 
@@ -218,10 +165,11 @@ pub fn end_line(out: &mut Output)
 {
     put(out, b"\n");
     write_line(out);
-    set_count(out, 0);
+    out.text.clear();
 }
 
 // Writes an error line: what it is about, and what is to be said of it.
+#[tactic(auto, using(crate::proofs::Laws::flushed))]
 pub fn complain(out: &mut Output, what: &[u8], why: &[u8])
     ensures { Flushed out.old out.new }
 {
@@ -231,6 +179,7 @@ pub fn complain(out: &mut Output, what: &[u8], why: &[u8])
 }
 
 // The same with a number between two texts.
+#[tactic(auto, using(crate::proofs::Laws::flushed))]
 pub fn complain_number(out: &mut Output, what: &[u8], before: &[u8], n: u64, after: &[u8])
     ensures { Flushed out.old out.new }
 {

@@ -9,7 +9,7 @@ ghost use Rattle.std.specs.Prelude.{◌≤◌, length};
 use desk_commands::words;
 use desk_io::pieces;
 use desk_io::pieces::Source;
-use desk_print::output::{Output, runtime};
+use desk_print::output::{Output, Stream, runtime};
 use desk_print::{output, say};
 
 // Runs the first n words; lines are read from a file.
@@ -19,29 +19,25 @@ fn run_with(out: &mut Output, w: &[u8], n: usize, path: &[u8]) {
         Err(_) => Source::Nothing,
     };
     let end = words::start_of(w, n);
-    desk_commands::run(out, util::bytes::sub_slice(w, 0, end), &mut input);
+    desk_commands::run(out, &w[..end], &mut input);
     pieces::close(input);
 }
 
 // Runs words, of which the last two may name a file of lines.
 fn run_words(out: &mut Output, w: &[u8]) {
     let n = words::count(w);
-    if 2 <= n {
-        if check::same(words::word(w, n - 2), b"<") {
-            return run_with(out, w, n - 2, words::word(w, n - 1));
-        }
+    if 2 <= n && matches!(words::word(w, n - 2), b"<") {
+        return run_with(out, w, n - 2, words::word(w, n - 1));
     }
     desk_commands::run(out, w, &mut Source::Nothing);
 }
 
 // Writes a line, and runs it.
 fn run_line(out: &mut Output, line: &[u8]) {
-    let mut w = io::buffer();
     say(out, b"$ desk ");
     say(out, line);
     say(out, b"\n");
-    let n = split::split(line, &mut w);
-    run_words(out, util::bytes::sub_slice(&w, 0, n));
+    run_words(out, split::split(line).as_slice());
 }
 
 // The end of the line that begins at a place.
@@ -49,25 +45,16 @@ fn line_end(s: &[u8], from: usize) -> usize
     requires { from ≤ length s.now }
     ensures { (from ≤ result) × (result ≤ length s.now) }
 {
-    let mut i = from;
-    while i < s.len() {
-        if s[i] == 10 {
-            return i;
-        }
-        i += 1;
-    }
-    i
+    from + s[from..].iter().take_while(|b| **b != b'\n').count()
 }
 
 // Runs all lines, which each have a line end.
 fn run_lines(out: &mut Output, s: &[u8]) {
     let mut at = 0;
+    // Kept as a loop: a piece of `split` has no place, and that a line ends within the text behind its start is what `line_end` promises.
     while at < s.len() {
         let end = line_end(s, at);
         run_line(out, &s[at..end]);
-        if s.len() <= end {
-            return;
-        }
         at = end + 1;
     }
 }
@@ -77,12 +64,12 @@ fn read_full(source: &mut Source, room: &mut [u8]) -> usize
     ensures { result ≤ length room.old }
 {
     let mut n = 0;
+    // Kept as a loop: each turn goes on behind as many bytes as the read before it gave, which no iterator yields.
     while n < room.len() {
-        let got = pieces::read_once(source, &mut room[n..]);
-        if got.count == 0 {
-            break;
+        match pieces::read_once(source, &mut room[n..]) {
+            Ok(0) | Err(_) => break,
+            Ok(count) => n += count,
         }
-        n += got.count;
     }
     n
 }
@@ -90,7 +77,7 @@ fn read_full(source: &mut Source, room: &mut [u8]) -> usize
 fn main(rt: HostRuntime) {
     let mut room = io::large_buffer();
     let n = read_full(&mut Source::Stdin(rt.stdin()), &mut room);
-    let mut out = output::new(rt, 1);
+    let mut out = output::new(rt, Stream::Stdout);
     run_lines(&mut out, &room[..n]);
     output::flush(&mut out);
 }

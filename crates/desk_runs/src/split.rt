@@ -1,58 +1,33 @@
 // A line as words, each ended by a 0.
-use desk_commands::words::put;
+use arrayvec::ArrayVec;
 
-// How far a line is split: the bytes put, whether a word is begun, whether quotes are open.
-#[derive(Clone, Copy)]
-pub struct State {
-    pub n: usize,
-    pub is_word: bool,
-    pub is_quoted: bool,
+// The bytes of the words of a line.
+pub type Words = ArrayVec<u8, 4096>;
+
+// Puts a byte behind the words that are there, where there is room.
+fn put(words: &mut Words, b: u8) {
+    let _ = words.try_push(b);
 }
 
-// Ends a word, if one is begun.
-fn ended(w: &mut [u8], s: State) -> State {
-    if s.is_word {
-        return State {
-            n: put(w, s.n, 0),
-            is_word: false,
-            is_quoted: false,
-        };
-    }
-    s
-}
-
-// Takes one more byte of the line.
-fn taken(w: &mut [u8], s: State, b: u8) -> State {
-    if b == 34 {
-        return State {
-            n: s.n,
-            is_word: true,
-            is_quoted: !s.is_quoted,
-        };
-    }
-    if b == 32 {
-        if !s.is_quoted {
-            return ended(w, s);
+// The words of a line: a space ends one, but between double quotes.
+pub fn split(line: &[u8]) -> Words {
+    let mut words = Words::new();
+    let mut is_word = false;
+    let mut is_quoted = false;
+    for b in line {
+        if *b == b'"' {
+            is_word = true;
+            is_quoted = !is_quoted;
+        } else if *b != b' ' || is_quoted {
+            is_word = true;
+            put(&mut words, *b);
+        } else if is_word {
+            is_word = false;
+            put(&mut words, 0);
         }
     }
-    State {
-        n: put(w, s.n, b),
-        is_word: true,
-        is_quoted: s.is_quoted,
+    if is_word {
+        put(&mut words, 0);
     }
-}
-
-// Puts the words of a line; how many bytes they are.
-pub fn split(line: &[u8], w: &mut [u8]) -> usize {
-    let mut s = State {
-        n: 0,
-        is_word: false,
-        is_quoted: false,
-    };
-    let mut i = 0;
-    while i < line.len() {
-        s = taken(w, s, line[i]);
-        i += 1;
-    }
-    ended(w, s).n
+    words
 }

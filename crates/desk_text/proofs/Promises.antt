@@ -7,7 +7,7 @@ use Prim.Native.Nat.{ℕ, ◌+◌, ◌*◌, ◌/◌, ◌^◌, ◌≤◌, ◌<◌
 use native.Mathlib.Omega.{arith}
 use lib.Dec.{eqb}
 use lib.ListN.{length}
-use Rattle.desk_text.specs.declared.Number.TheVariants.{Is}
+use Rattle.std.specs.Prelude.{Some}
 use Rattle.desk_text.specs.Cents.{most, value_after, padded, are_digits, whole_of, decimals_of, joined_of, unsigned_of}
 use Rattle.desk_text.specs.Fractions.{step_16384, step_8192, nearest}
 use Rattle.desk_text.specs.Promises.{digits_of, places_of, NearestOfExact}
@@ -15,7 +15,7 @@ use Rattle.desk_text.proofs.Laws.Digits.{and_right}
 use Rattle.desk_text.proofs.Laws.Exact.{from_digits, cut_bounds, nearest_exact, is_joined}
 
 -- the exact number of a word is not below its ten trillionths, and below one more
-exact : (w : List ℕ) (n : ℕ) → unsigned_of w ≡ Is n → n < most
+exact : (w : List ℕ) (n : ℕ) → unsigned_of w ≡ Some n → n < most
     → (n * 10 ^ places_of w ≤ digits_of w * 10 ^ 13) × (digits_of w * 10 ^ 13 < (n + 1) * 10 ^ places_of w)
 unfolding unsigned_of joined_of
 exact w n e h =

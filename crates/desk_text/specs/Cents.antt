@@ -1,12 +1,9 @@
 -- A word as a number of cents, in ten trillionths of a cent.
-use Rattle.std.specs.Prelude.{Bool, true, false, ◌&&◌, ◌||◌, List, [], ◌∷◌, ℕ, zero, suc, ◌+◌, ◌*◌, ◌-◌, min, eqb, length, take, drop, get_or}
+use Rattle.std.specs.Prelude.{Option, Some, None, Bool, true, false, not, ◌&&◌, ◌||◌, List, [], ◌∷◌, ℕ, zero, suc, ◌+◌, ◌*◌, ◌-◌, min, eqb, length, take, drop, get_or}
 use Rattle.util.specs.Pick.{pick}
-use Rattle.desk_text.specs.declared.Number.{Number}
-use Rattle.desk_text.specs.declared.Number.TheVariants as number
 use Rattle.desk_text.specs.declared.cents.Decimals.{Decimals}
-use Rattle.desk_text.specs.declared.cents.Decimals.TheVariants.{Above, Below, Nothing}
-use Rattle.desk_text.specs.declared.spans.Until.TheVariants.{Point, Other}
-use Rattle.desk_text.specs.Spans.{is_three, stops, span}
+use Rattle.desk_text.specs.declared.cents.Decimals.TheVariants.{Above, Below}
+use Rattle.desk_text.specs.Spans.{is_digit, is_point, is_three, span}
 
 -- the most that a number is read as, outside every range: 100,000 cents
 abbrev pub most : ℕ
@@ -25,27 +22,27 @@ padded (suc k) (b ∷ l) = b ∷ padded k l
 
 -- whether all bytes are digits: none stops them
 unfoldable pub are_digits : List ℕ → Bool
-are_digits l = eqb (span (stops Other) l) (length l)
+are_digits l = eqb (span (λ b. not (is_digit b)) l) (length l)
 
 -- the bytes before the first point or comma
 unfoldable pub whole_of : List ℕ → List ℕ
-whole_of w = take (span (stops Point) w) w
+whole_of w = take (span is_point w) w
 
 -- the bytes behind the first point or comma
 unfoldable pub decimals_of : List ℕ → List ℕ
-decimals_of w = drop (suc (span (stops Point) w)) w
+decimals_of w = drop (suc (span is_point w)) w
 
 -- the ten trillionths of digits and decimals: those behind the thirteenth are cut off; nothing without a digit
-unfoldable pub joined_of : List ℕ → List ℕ → Number
+unfoldable pub joined_of : List ℕ → List ℕ → Option ℕ
 joined_of whole decimals =
     pick (are_digits whole && are_digits decimals)
     (pick (eqb (length whole) 0 && eqb (length decimals) 0)
-    number.Nothing
-    (number.Is (min (value_after (value_after 0 whole) (padded 13 decimals)) most)))
-    number.Nothing
+    None
+    (Some (min (value_after (value_after 0 whole) (padded 13 decimals)) most)))
+    None
 
 -- the ten trillionths of a word without a sign
-unfoldable pub unsigned_of : List ℕ → Number
+unfoldable pub unsigned_of : List ℕ → Option ℕ
 unsigned_of w = joined_of (whole_of w) (decimals_of w)
 
 -- the bytes of a sign: +, -, or U+2212, which is E2 88 92
@@ -57,11 +54,11 @@ unfoldable pub is_minus : List ℕ → Bool
 is_minus w = eqb (get_or w 0 0) 45 || is_three 0xE2 0x88 0x92 w
 
 -- a number above zero, or below it
-unfoldable pub with_sign_of : Number → Bool → Decimals
-with_sign_of (number.Is n) true = Below n
-with_sign_of (number.Is n) false = Above n
-with_sign_of number.Nothing s = Nothing
+unfoldable pub with_sign_of : Option ℕ → Bool → Option Decimals
+with_sign_of (Some n) true = Some (Below n)
+with_sign_of (Some n) false = Some (Above n)
+with_sign_of None s = None
 
 -- the signed ten trillionths of a word
-unfoldable pub cents_of : List ℕ → Decimals
+unfoldable pub cents_of : List ℕ → Option Decimals
 cents_of w = with_sign_of (unsigned_of (drop (sign_length w) w)) (is_minus w)

@@ -1,8 +1,7 @@
 -- Lines and words of text.
-use Rattle.std.specs.Prelude.{Bool, true, ◌&&◌, ◌||◌, List, [], ◌∷◌, ℕ, zero, suc, ◌+◌, eqb, length, take, drop, get_or}
+use Rattle.std.specs.Prelude.{Bool, true, ◌&&◌, ◌||◌, not, List, [], ◌∷◌, ℕ, zero, suc, ◌+◌, eqb, length, take, drop, get_or}
 use Rattle.util.specs.Pick.{pick}
-use Rattle.desk_text.specs.declared.spans.Until.TheVariants.{Blank, Word}
-use Rattle.desk_text.specs.Spans.{is_line_end, is_blank, is_three, stops, span}
+use Rattle.desk_text.specs.Spans.{is_line_end, is_blank, is_three, span}
 
 -- the bytes of a byte order mark at the start: EF BB BF
 unfoldable pub mark_length : List ℕ → ℕ
@@ -28,15 +27,15 @@ said_part line = take (said_length true line) line
 
 -- the bytes from the first word on
 unfoldable pub from_word : List ℕ → List ℕ
-from_word s = drop (span (stops Word) s) s
+from_word s = drop (span (λ b. not (is_blank b)) s) s
 
 -- the word that bytes begin with
 unfoldable pub word_of : List ℕ → List ℕ
-word_of s = take (span (stops Blank) s) s
+word_of s = take (span is_blank s) s
 
 -- the bytes from the word behind the first on
 unfoldable pub behind_word : List ℕ → List ℕ
-behind_word s = from_word (drop (span (stops Blank) s) s)
+behind_word s = from_word (drop (span is_blank s) s)
 
 -- the line that a text begins with
 unfoldable pub line_of : List ℕ → List ℕ

@@ -1,6 +1,5 @@
 -- What words promise, as propositions: the theorems of proofs/Promises.antt have these types.
-use Rattle.std.specs.Prelude.{◌≡◌, List, ℕ, ◌+◌, ◌*◌, ◌/◌, ◌^◌, ◌≤◌, ◌<◌, length}
-use Rattle.desk_text.specs.declared.Number.TheVariants.{Is}
+use Rattle.std.specs.Prelude.{◌≡◌, Some, List, ℕ, ◌+◌, ◌*◌, ◌/◌, ◌^◌, ◌≤◌, ◌<◌, length}
 use Rattle.desk_text.specs.Cents.{most, value_after, whole_of, decimals_of, unsigned_of}
 use Rattle.desk_text.specs.Fractions.{step_16384, step_8192, nearest}
 
@@ -21,6 +20,6 @@ places_of w = length (decimals_of w)
 -- number that the word says, however many decimals it has
 abbrev pub NearestOfExact : Type 0
 NearestOfExact =
-    (w : List ℕ) (n : ℕ) → unsigned_of w ≡ Is n → n < most
+    (w : List ℕ) (n : ℕ) → unsigned_of w ≡ Some n → n < most
     → NearestTo step_16384 (nearest step_16384 n) (digits_of w) (places_of w)
     × NearestTo step_8192 (nearest step_8192 n) (digits_of w) (places_of w)

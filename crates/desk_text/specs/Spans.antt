@@ -1,8 +1,6 @@
 -- Stretches of bytes, by the byte that ends them.
-use Rattle.std.specs.Prelude.{Bool, ◌&&◌, ◌||◌, not, List, [], ◌∷◌, ℕ, suc, eqb, leb, get_or}
+use Rattle.std.specs.Prelude.{Bool, ◌&&◌, ◌||◌, List, [], ◌∷◌, ℕ, suc, eqb, leb, get_or}
 use Rattle.util.specs.Pick.{pick}
-use Rattle.desk_text.specs.declared.spans.Until.{Until}
-use Rattle.desk_text.specs.declared.spans.Until.TheVariants.{LineEnd, Blank, Word, Point, Other}
 
 -- a byte that ends a line: LF or CR
 unfoldable pub is_line_end : ℕ → Bool
@@ -23,14 +21,6 @@ is_digit b = leb 48 b && leb b 57
 -- whether bytes begin with these three
 unfoldable pub is_three : ℕ → ℕ → ℕ → List ℕ → Bool
 is_three a b c s = eqb (get_or s 0 0) a && (eqb (get_or s 1 0) b && eqb (get_or s 2 0) c)
-
--- whether a byte ends a stretch
-unfoldable pub stops : Until → ℕ → Bool
-stops LineEnd = is_line_end
-stops Blank = is_blank
-stops Word = λ b. not (is_blank b)
-stops Point = is_point
-stops Other = λ b. not (is_digit b)
 
 -- how many leading bytes do not satisfy a test
 unfoldable pub span : (ℕ → Bool) → List ℕ → ℕ

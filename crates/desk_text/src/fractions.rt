@@ -3,7 +3,6 @@ ghost use Rattle.std.specs.Prelude.{◌≡◌, ◌≤◌};
 ghost use Rattle.desk_text.specs.Cents.{most};
 ghost use Rattle.desk_text.specs.Fractions.{step_16384, step_8192, nearest, entry_of, highest, tuning_entry, raised_entry, lowered_entry, tuned_entry};
 
-use super::Number;
 use super::cents::{Decimals, MOST};
 use util::limits::KEYS;
 
@@ -35,50 +34,48 @@ fn entry(pitch: u64) -> u64
 }
 
 // The entry of a pitch, where there is such a tuning.
-fn in_range(pitch: u64) -> Number
+fn in_range(pitch: u64) -> Option<u64>
     ensures { result ≡ tuning_entry pitch }
 {
     if pitch <= HIGHEST {
-        return Number::Is(entry(pitch));
+        return Some(entry(pitch));
     }
-    Number::Nothing
+    None
 }
 
-// The entry of a key's tuning, told by its difference from equal temperament.
-pub fn tuned(key: u64, d: Decimals) -> Number
+// The entry of a key's tuning, told by its difference from equal temperament, where there is one.
+#[tactic(auto, unfolding(crate::specs::Fractions::tuned_entry, crate::specs::Fractions::changed_entry))]
+pub fn tuned(key: u64, d: Option<Decimals>) -> Option<u64>
     ensures { result ≡ tuned_entry key d }
 {
     if KEYS as u64 <= key {
-        return Number::Nothing;
+        return None;
     }
-    match d {
+    match d? {
         Decimals::Above(a) => raised(key * 16384, a),
         Decimals::Below(a) => lowered(key * 16384, a),
-        Decimals::Nothing => Number::Nothing,
     }
 }
 
 // The entry of a pitch that is raised.
-fn raised(pitch: u64, a: u64) -> Number
+fn raised(pitch: u64, a: u64) -> Option<u64>
     requires { pitch ≤ highest }
     ensures { result ≡ raised_entry pitch a }
 {
     if a <= MOST {
         return in_range(pitch + nearest_16384(a));
     }
-    Number::Nothing
+    None
 }
 
 // The entry of a pitch that is lowered.
-fn lowered(pitch: u64, a: u64) -> Number
+#[tactic(auto, unfolding(crate::specs::Fractions::lowered_entry))]
+fn lowered(pitch: u64, a: u64) -> Option<u64>
     requires { pitch ≤ highest }
     ensures { result ≡ lowered_entry pitch a }
 {
-    if a <= MOST {
-        let n = nearest_16384(a);
-        if n <= pitch {
-            return in_range(pitch - n);
-        }
+    if MOST < a {
+        return None;
     }
-    Number::Nothing
+    in_range(pitch.checked_sub(nearest_16384(a))?)
 }

@@ -10,42 +10,27 @@ pub mod spans;
 ghost use Rattle.std.specs.Prelude.{◌≡◌};
 ghost use Rattle.desk_text.specs.Decimal.{after, number_of};
 
-// A number, or a word that is none.
-#[derive(Clone, Copy)]
-pub enum Number {
-    Is(u64),
-    Nothing,
-}
-
 // The number of a word's digits to the base ten; nothing for an empty word, another byte, or more than 10^16.
-pub fn parse(s: &[u8]) -> Number
+#[tactic(auto, unfolding(crate::specs::Decimal::number_of))]
+pub fn parse(s: &[u8]) -> Option<u64>
     ensures { result ≡ number_of s.now }
 {
-    if s.len() == 0 {
-        return Number::Nothing;
+    if s.is_empty() {
+        return None;
     }
     digits(s)
 }
 
 // The number of digits.
-fn digits(s: &[u8]) -> Number
+fn digits(s: &[u8]) -> Option<u64>
     ensures { result ≡ after 0 s.now }
 {
     let mut n: u64 = 0;
-    let mut i = 0;
-    while i < s.len() {
-        let b = s[i];
-        if b < 48 {
-            return Number::Nothing;
+    for b in s {
+        if !spans::is_digit(*b) || 1000000000000000 < n {
+            return None;
         }
-        if 57 < b {
-            return Number::Nothing;
-        }
-        if 1000000000000000 < n {
-            return Number::Nothing;
-        }
-        n = n * 10 + (b - 48) as u64;
-        i += 1;
+        n = n * 10 + (*b - b'0') as u64;
     }
-    Number::Is(n)
+    Some(n)
 }

@@ -1,115 +1,112 @@
 // Lines and words of text.
-ghost use Rattle.std.specs.Prelude.{◌≡◌, true, ◌+◌, drop};
-ghost use Rattle.desk_text.specs.Spans.{is_line_end, stops, span};
-ghost use Rattle.desk_text.specs.Lines.{mark_length, end_length, begins_comment, said_length, said_part, from_word, word_of, behind_word};
+ghost use Rattle.std.specs.Prelude.{◌≡◌, ◌≤◌, true, length, drop};
+ghost use Rattle.desk_text.specs.Spans.{is_line_end, is_blank, span};
+ghost use Rattle.desk_text.specs.Lines.{mark_length, end_length, begins_comment, said_length, said_part, from_word, word_of, behind_word, line_of, behind_line};
 
-use super::spans;
-use super::spans::Until;
-use util::bytes::sub_slice;
+use super::spans::{is_blank, is_line_end, span_of};
 
-// The place behind a byte order mark at the start.
-pub fn start(s: &[u8]) -> usize
-    ensures { result ≡ mark_length s.now }
+// The byte order mark of UTF-8.
+const MARK: [u8; 3] = [0xEF, 0xBB, 0xBF];
+
+// The bytes behind a byte order mark at the start.
+#[tactic(auto, unfolding(crate::specs::Lines::mark_length, crate::specs::Spans::is_three))]
+pub fn behind_mark(s: &[u8]) -> &[u8]
+    ensures { result.now ≡ drop (mark_length s.now) s.now }
 {
-    if spans::is_three(s, 0xEF, 0xBB, 0xBF) {
-        3
-    } else {
-        0
+    match s.strip_prefix(&MARK) {
+        Some(rest) => rest,
+        None => s,
     }
 }
 
-// The end of the line that begins at a place: the place of its line end, or the end of the text.
-pub fn line_end(s: &[u8], from: usize) -> usize
-    ensures { result ≡ from + span is_line_end (drop from s.now) }
+// The bytes behind a line end at the start: CR LF, another byte, or none at the end of the text.
+#[tactic(auto, unfolding(crate::specs::Lines::end_length))]
+fn behind_end(s: &[u8]) -> &[u8]
+    ensures { result.now ≡ drop (end_length s.now) s.now }
 {
-    spans::span_end(s, from, Until::LineEnd)
+    match s {
+        [b'\r', b'\n', rest @ ..] => rest,
+        [_, rest @ ..] => rest,
+        [] => s,
+    }
 }
 
-// The first place from a place on whose byte parts no words.
-pub fn skip(s: &[u8], from: usize) -> usize
-    ensures { result ≡ from + span (stops Until.Word) (drop from s.now) }
+// The line that a text begins with, and the text behind its end.
+#[tactic(auto, unfolding(crate::specs::Lines::line_of, crate::specs::Lines::behind_line))]
+pub fn split_line(s: &[u8]) -> (&[u8], &[u8])
+    ensures line { result.0.now ≡ line_of s.now }
+    ensures rest { result.1.now ≡ behind_line s.now }
 {
-    spans::span_end(s, from, Until::Word)
-}
-
-// The first place from a place on whose byte parts words.
-pub fn word_end(s: &[u8], from: usize) -> usize
-    ensures { result ≡ from + span (stops Until.Blank) (drop from s.now) }
-{
-    spans::span_end(s, from, Until::Blank)
-}
-
-// The start of the line behind a line that ends at a place, or the end of the text.
-pub fn next_line(s: &[u8], end: usize) -> usize
-    ensures { result ≡ end + end_length (drop end s.now) }
-{
-    if s.len() <= end {
-        return end;
-    }
-    let next = end + 1;
-    if s.len() <= next {
-        return next;
-    }
-    if s[end] != 13 {
-        return next;
-    }
-    if s[next] != 10 {
-        return next;
-    }
-    next + 1
+    let (line, rest) = s.split_at(span_of(s, is_line_end));
+    (line, behind_end(rest))
 }
 
 // Whether a byte begins a comment, where a word may begin.
+#[tactic(auto, unfolding(crate::specs::Lines::begins_comment))]
 pub fn is_comment(may_begin: bool, b: u8) -> bool
     ensures { result ≡ begins_comment may_begin b }
 {
-    if !may_begin {
-        return false;
-    }
-    if b == 35 { true } else { b == 33 }
+    may_begin && (b == b'#' || b == b'!')
 }
 
 // How many bytes of a line stand before its comment.
 pub fn said_end(line: &[u8]) -> usize
-    ensures { result ≡ said_length true line.now }
+    ensures value { result ≡ said_length true line.now }
+    ensures bound { result ≤ length line.now }
 {
     let mut may_begin = true;
-    let mut i = 0;
-    while i < line.len() {
-        let b = line[i];
-        if is_comment(may_begin, b) {
+    for (i, b) in line.iter().enumerate() {
+        if is_comment(may_begin, *b) {
             return i;
         }
-        may_begin = spans::is_blank(b);
-        i += 1;
+        may_begin = is_blank(*b);
     }
-    i
+    line.len()
 }
 
 // What a line says before its comment.
+#[tactic(auto, unfolding(crate::specs::Lines::said_part))]
 pub fn said(line: &[u8]) -> &[u8]
     ensures { result.now ≡ said_part line.now }
 {
-    sub_slice(line, 0, said_end(line))
+    &line[..said_end(line)]
 }
 
 // The bytes from the first word on.
+#[tactic(auto, unfolding(crate::specs::Lines::from_word))]
 pub fn from_word(s: &[u8]) -> &[u8]
     ensures { result.now ≡ from_word s.now }
 {
-    sub_slice(s, spans::span_end(s, 0, Until::Word), s.len())
+    &s[span_of(s, |b| !is_blank(b))..]
+}
+
+// The word that bytes begin with, and the bytes behind it.
+#[tactic(auto, unfolding(crate::specs::Lines::word_of))]
+pub fn split_word(s: &[u8]) -> (&[u8], &[u8])
+    ensures word { result.0.now ≡ word_of s.now }
+    ensures rest { result.1.now ≡ drop (span is_blank s.now) s.now }
+{
+    s.split_at(span_of(s, is_blank))
 }
 
 // The word that bytes begin with.
 pub fn word(s: &[u8]) -> &[u8]
     ensures { result.now ≡ word_of s.now }
 {
-    sub_slice(s, 0, spans::span_end(s, 0, Until::Blank))
+    split_word(s).0
 }
 
 // The bytes from the word behind the first on.
+#[tactic(auto, unfolding(crate::specs::Lines::behind_word))]
 pub fn behind_word(s: &[u8]) -> &[u8]
     ensures { result.now ≡ behind_word s.now }
 {
-    from_word(sub_slice(s, spans::span_end(s, 0, Until::Blank), s.len()))
+    from_word(split_word(s).1)
+}
+
+// The bytes from the end of the line on.
+pub fn from_line_end(s: &[u8]) -> &[u8]
+    ensures { result.now ≡ drop (span is_line_end s.now) s.now }
+{
+    &s[span_of(s, is_line_end)..]
 }

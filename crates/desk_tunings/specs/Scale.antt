@@ -1,14 +1,13 @@
 -- Twelve values in cents.
-use Rattle.std.specs.Prelude.{Bool, true, false, ◌&&◌, List, [], ◌∷◌, ℕ, zero, suc, ◌+◌, ◌*◌, ◌-◌, ◌/◌, ◌%◌, eqb, leb, ltb, length, drop, set}
+use Rattle.std.specs.Prelude.{Option, Some, None, Result, Ok, Err, Bool, true, false, ◌&&◌, List, [], ◌∷◌, ℕ, zero, suc, ◌+◌, ◌*◌, ◌-◌, ◌/◌, ◌%◌, eqb, leb, ltb, length, drop, set}
 use Rattle.util.specs.Pick.{pick}
-use Rattle.desk_text.specs.declared.spans.Until.TheVariants.{Blank}
-use Rattle.desk_text.specs.Spans.{is_line_end, is_blank, stops, span}
+use Rattle.desk_text.specs.Spans.{is_line_end, is_blank, span}
 use Rattle.desk_text.specs.Lines.{mark_length, begins_comment, word_of}
 use Rattle.desk_text.specs.Cents.{cents_of}
 use Rattle.desk_text.specs.declared.cents.Decimals.{Decimals}
-use Rattle.desk_text.specs.declared.cents.Decimals.TheVariants.{Above, Below, Nothing}
-use Rattle.desk_tunings.specs.declared.scale.Values.{Values}
-use Rattle.desk_tunings.specs.declared.scale.Values.TheVariants.{Good, NoValue, NoNumber, Outside, TooFew, TooMany}
+use Rattle.desk_text.specs.declared.cents.Decimals.TheVariants.{Above, Below}
+use Rattle.desk_tunings.specs.declared.scale.ValuesError.{ValuesError}
+use Rattle.desk_tunings.specs.declared.scale.ValuesError.TheVariants.{NoValue, NoNumber, Outside, TooFew, TooMany}
 
 -- a cent in ten trillionths
 abbrev pub cent : ℕ
@@ -18,38 +17,47 @@ cent = 10000000000000
 abbrev pub zero_value : ℕ
 zero_value = 200 * cent
 
--- a value from -100 to 99.99 cents, or 0
-unfoldable pub value_of : Decimals → ℕ
-value_of (Above a) = pick (leb a (9999 * (cent / 100))) (zero_value + a) 0
-value_of (Below a) = pick (leb a (100 * cent)) (zero_value - a) 0
-value_of Nothing = 0
+-- how reading values went: they are good, or what is wrong with them
+abbrev pub Values : Type 0
+Values = Result (Unit {0}) ValuesError
+
+-- a value from -100 to 99.99 cents
+unfoldable pub value_of : Option Decimals → Option ℕ
+value_of (Some (Above a)) = pick (leb a (9999 * (cent / 100))) (Some (zero_value + a)) None
+value_of (Some (Below a)) = pick (leb a (100 * cent)) (Some (zero_value - a)) None
+value_of None = None
 
 -- what is wrong with value n that is none
-unfoldable pub refused_as : Decimals → ℕ → Values
-refused_as (Above a) n = Outside n
-refused_as (Below a) n = Outside n
-refused_as Nothing n = NoNumber n
+unfoldable pub refused_as : Option Decimals → ℕ → ValuesError
+refused_as (Some d) n = Outside n
+refused_as None n = NoNumber n
+
+-- how putting a value, where there is one, goes, and what is wrong where there is none
+unfoldable pub value_answer : Option ℕ → ValuesError → Values
+value_answer (Some v) e = Ok tt
+value_answer None e = Err e
 
 -- how putting a word's value at place n goes
-unfoldable pub word_answer : Decimals → ℕ → Values
-word_answer d n = pick (eqb (value_of d) 0) (refused_as d (n + 1)) Good
+unfoldable pub word_answer : Option Decimals → ℕ → Values
+word_answer d n = value_answer (value_of d) (refused_as d (n + 1))
 
--- the values behind it
-unfoldable pub word_values : Decimals → ℕ → List ℕ → List ℕ
-word_values d n vs = pick (eqb (value_of d) 0) vs (set vs n (value_of d))
+-- the values behind a value, where there is one, that is put at place n
+unfoldable pub put_value : Option ℕ → ℕ → List ℕ → List ℕ
+put_value (Some v) n vs = set vs n v
+put_value None n vs = vs
+
+-- the values behind a word's value at place n
+unfoldable pub word_values : Option Decimals → ℕ → List ℕ → List ℕ
+word_values d n vs = put_value (value_of d) n vs
 
 -- whether values are good
 unfoldable pub good_values : Values → Bool
-good_values Good = true
-good_values NoValue = false
-good_values (NoNumber n) = false
-good_values (Outside n) = false
-good_values (TooFew n) = false
-good_values TooMany = false
+good_values (Ok u) = true
+good_values (Err e) = false
 
 -- whether n values are twelve
 unfoldable pub counted_as : ℕ → Values
-counted_as n = pick (eqb n 0) NoValue (pick (ltb n 12) (TooFew n) Good)
+counted_as n = pick (eqb n 0) (Err NoValue) (pick (ltb n 12) (Err (TooFew n)) (Ok tt))
 
 -- the words of a text without its comments, which end with their line, within so many bytes
 unfoldable pub words_within : ℕ → List ℕ → List (List ℕ)
@@ -60,7 +68,7 @@ words_within (suc n) (b ∷ l) =
     (words_within n l)
     (pick (begins_comment true b)
     (words_within n (drop (span is_line_end l) l))
-    (word_of (b ∷ l) ∷ words_within n (drop (span (stops Blank) l) l)))
+    (word_of (b ∷ l) ∷ words_within n (drop (span is_blank l) l)))
 
 -- the words of a text without its comments
 unfoldable pub words_of : List ℕ → List (List ℕ)
@@ -71,7 +79,7 @@ unfoldable pub read_words : List (List ℕ) → ℕ → List ℕ → Values × L
 read_words [] n vs = (counted_as n, vs)
 read_words (w ∷ ws) n vs =
     pick (leb (length vs) n)
-    (TooMany, vs)
+    (Err TooMany, vs)
     (pick (good_values (word_answer (cents_of w) n))
     (read_words ws (n + 1) (word_values (cents_of w) n vs))
     (word_answer (cents_of w) n, word_values (cents_of w) n vs))

@@ -1,123 +1,79 @@
 // The lines of a tuning, as the entries of its keys.
-ghost use Rattle.std.specs.Prelude.{◌≡◌, ◌<◌, ◌+◌, ◌*◌, length, drop, replicate};
+ghost use Rattle.std.specs.Prelude.{◌≡◌, Ok, Some, ◌<◌, ◌+◌, length, drop};
 ghost use Rattle.desk_text.specs.Lines.{mark_length, lines_of};
 ghost use Rattle.desk_tunings.specs.Lines.{said_line};
-ghost use Rattle.desk_tunings.specs.Keys.{untold, good_lines, set_by, put_answer, put_entries, read_lines, equal_entry, filled_entry, filled_from, counted_of, read_answer, read_entries};
+ghost use Rattle.desk_tunings.specs.Keys.{put_answer, put_entries, read_lines, equal_entry, filled_entry, filled_from, counted_of, read_answer, read_entries};
 
 use super::said;
-use super::said::Said;
+use super::said::LineError;
 use desk_text::lines;
 use util::limits::KEYS;
 
 // A key that no line has named yet.
 const UNTOLD: u64 = u64::MAX;
 
-// How reading the lines went: how many keys were set, or the number of the line that is wrong, and why.
+// What is wrong with lines: none sets a key, or one is wrong, and its number.
 #[derive(Clone, Copy)]
-pub enum Lines {
-    Good(u64),
+pub enum LinesError {
     NoLine,
-    NotTwo(u64),
-    NoKey(u64),
-    NoCents(u64),
-    Outside(u64),
-    Twice(u64),
-}
-
-// Whether lines are good.
-pub fn is_good(l: Lines) -> bool
-    ensures { result ≡ good_lines l }
-{
-    match l {
-        Lines::Good(_) => true,
-        Lines::NoLine => false,
-        Lines::NotTwo(_) => false,
-        Lines::NoKey(_) => false,
-        Lines::NoCents(_) => false,
-        Lines::Outside(_) => false,
-        Lines::Twice(_) => false,
-    }
-}
-
-// How many keys good lines set.
-pub fn keys_set(l: Lines) -> u64
-    ensures { result ≡ set_by l }
-{
-    match l {
-        Lines::Good(n) => n,
-        Lines::NoLine => 0,
-        Lines::NotTwo(_) => 0,
-        Lines::NoKey(_) => 0,
-        Lines::NoCents(_) => 0,
-        Lines::Outside(_) => 0,
-        Lines::Twice(_) => 0,
-    }
+    Line(u64, LineError),
 }
 
 // Puts an entry at its key, which no line has named yet.
-fn put_entry(entries: &mut [u64], key: usize, entry: u64, n: u64, set: u64) -> Lines
+#[tactic(auto, unfolding(crate::specs::Keys::put_answer, crate::specs::Keys::put_entries))]
+fn put_entry(
+    entries: &mut [u64],
+    key: usize,
+    entry: u64,
+    n: u64,
+    set: u64,
+) -> Result<u64, LinesError>
     requires { set < n }
-    ensures value { result ≡ put_answer (Said.Entry key entry) n set entries.old }
-    ensures entries_after { entries.new ≡ put_entries (Said.Entry key entry) entries.old }
+    ensures value { result ≡ put_answer (Ok (Some (key, entry))) n set entries.old }
+    ensures entries_after { entries.new ≡ put_entries (Ok (Some (key, entry))) entries.old }
 {
     if entries.len() <= key {
-        return Lines::NoKey(n);
+        return Err(LinesError::Line(n, LineError::NoKey));
     }
     if entries[key] == UNTOLD {
         entries[key] = entry;
-        return Lines::Good(set + 1);
+        return Ok(set + 1);
     }
-    Lines::Twice(n)
+    Err(LinesError::Line(n, LineError::Twice))
 }
 
-// Puts what line n says.
-fn put_line(line: &[u8], entries: &mut [u64], n: u64, set: u64) -> Lines
+// Puts what line n says, where so many keys are set; how many are set then.
+#[tactic(auto, unfolding(crate::specs::Keys::put_answer, crate::specs::Keys::put_entries))]
+fn put_line(line: &[u8], entries: &mut [u64], n: u64, set: u64) -> Result<u64, LinesError>
     requires { set < n }
     ensures value { result ≡ put_answer (said_line line.now) n set entries.old }
     ensures entries_after { entries.new ≡ put_entries (said_line line.now) entries.old }
 {
     match said::said_in(line) {
-        Said::Entry(key, entry) => put_entry(entries, key, entry, n, set),
-        Said::Nothing => Lines::Good(set),
-        Said::NotTwo => Lines::NotTwo(n),
-        Said::NoKey => Lines::NoKey(n),
-        Said::NoCents => Lines::NoCents(n),
-        Said::Outside => Lines::Outside(n),
+        Ok(Some((key, entry))) => put_entry(entries, key, entry, n, set),
+        Ok(None) => Ok(set),
+        Err(e) => Err(LinesError::Line(n, e)),
     }
 }
 
-// Puts what all lines say, up to the first that is wrong.
-fn put_lines(s: &[u8], entries: &mut [u64]) -> Lines
+// Puts what all lines say, up to the first that is wrong; how many keys are set.
+fn put_lines(s: &[u8], entries: &mut [u64]) -> Result<u64, LinesError>
     ensures { (result, entries.new) ≡ read_lines (lines_of (drop (mark_length s.now) s.now)) 0 0 entries.old }
 {
     let mut set: u64 = 0;
     let mut n: u64 = 0;
-    let mut at = lines::start(s);
-    while at < s.len() {
+    let mut rest = lines::behind_mark(s);
+    while !rest.is_empty() {
         n += 1;
-        let end = lines::line_end(s, at);
-        let l = put_line(&s[at..end], entries, n, set);
-        if !is_good(l) {
-            return l;
-        }
-        set = keys_set(l);
-        at = lines::next_line(s, end);
+        let (line, behind) = lines::split_line(rest);
+        set = put_line(line, entries, n, set)?;
+        rest = behind;
     }
-    Lines::Good(set)
-}
-
-// Sets every entry to one that no line has named.
-fn clear(entries: &mut [u64])
-    ensures { entries.new ≡ replicate (length entries.old) untold }
-{
-    let mut i = 0;
-    while i < entries.len() {
-        entries[i] = UNTOLD;
-        i += 1;
-    }
+    Ok(set)
 }
 
 // The entry of a key in equal temperament.
+#[tactic(auto, unfolding(crate::specs::Keys::equal_entry))]
 fn equal(key: usize) -> u64
     ensures { result ≡ equal_entry key }
 {
@@ -125,6 +81,7 @@ fn equal(key: usize) -> u64
 }
 
 // The entry of a key: what a line says, or equal temperament.
+#[tactic(auto, unfolding(crate::specs::Keys::filled_entry))]
 fn filled(entry: u64, key: usize) -> u64
     ensures { result ≡ filled_entry entry key }
 {
@@ -135,31 +92,29 @@ fn filled(entry: u64, key: usize) -> u64
 fn fill(entries: &mut [u64])
     ensures { entries.new ≡ filled_from 0 entries.old }
 {
-    let mut i = 0;
-    while i < entries.len() {
-        entries[i] = filled(entries[i], i);
-        i += 1;
+    for (key, entry) in entries.iter_mut().enumerate() {
+        *entry = filled(*entry, key);
     }
 }
 
 // Lines that set no key are none.
-fn counted(l: Lines) -> Lines
+#[tactic(auto, unfolding(crate::specs::Keys::counted_of, crate::specs::Keys::good_lines, crate::specs::Keys::set_by))]
+fn counted(l: Result<u64, LinesError>) -> Result<u64, LinesError>
     ensures { result ≡ counted_of l }
 {
-    if is_good(l) {
-        if keys_set(l) == 0 {
-            return Lines::NoLine;
-        }
+    match l {
+        Ok(0) => Err(LinesError::NoLine),
+        _ => l,
     }
-    l
 }
 
-// The entries that lines say.
-pub fn read(s: &[u8], entries: &mut [u64]) -> Lines
+// The entries that lines say; how many keys they set, or what is wrong with them.
+pub fn read(s: &[u8], entries: &mut [u64]) -> Result<u64, LinesError>
     ensures value { result ≡ read_answer s.now (length entries.old) }
     ensures entries_after { entries.new ≡ read_entries s.now (length entries.old) }
 {
-    clear(entries);
+    // Kept as a number that no line can say, not an Option: the lent entries are of any length, and there is no memory for as many Options.
+    entries.fill(UNTOLD);
     let l = put_lines(s, entries);
     fill(entries);
     counted(l)

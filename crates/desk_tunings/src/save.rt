@@ -1,111 +1,92 @@
 // A key dump or a scale dump from the lines of an open file, as a new file.
-ghost use Rattle.std.specs.Prelude.{◌≤◌, length};
+ghost use Rattle.std.specs.Prelude.{◌≤◌, IfSome, length};
 
-use super::errors::{are_good, are_values, is_name, seven};
+use super::errors::{complain_lines, complain_values, is_name, seven};
 use super::{keys, scale};
 use desk_io::pieces::Source;
 use desk_io::{output, pieces};
 use desk_print::output::{Output, complain};
 use desk_print::{number, say, units};
 use messages::system_exclusive::{DeviceID, UniversalNonRealTimeMsg};
-use messages::tuning::{
-    KeyBasedTuningDump, ScaleTuningDump1Byte, ScaleTuningDump2Byte, TuningBank,
-};
-use util::limits::{KEYS, LARGEST_U7};
-use writer::Written;
+use messages::tuning::{KeyBasedTuningDump, ScaleTuningDump1Byte, ScaleTuningDump2Byte};
+use util::limits::KEYS;
 
-// Reads all lines; how many bytes there are, or the size of the buffer and a line that says why not.
-fn read_input(out: &mut Output, input: &mut Source, room: &mut [u8]) -> usize
-    ensures { result ≤ length room.old }
+// Reads all lines; how many bytes there are, or nothing and a line that says why not.
+fn read_input(out: &mut Output, input: &mut Source, room: &mut [u8]) -> Option<usize>
+    ensures { IfSome result (λ n. n ≤ length room.old) }
 {
-    let got = pieces::read_all(input, room);
-    if got.failure.is_some() {
-        complain(out, b"standard input", b"cannot be read");
-        return room.len();
+    match pieces::read_all(input, room) {
+        Ok(n) if n < room.len() => Some(n),
+        Ok(_) => {
+            complain(out, b"standard input", b"is too long for a tuning");
+            None
+        }
+        Err(_) => {
+            complain(out, b"standard input", b"cannot be read");
+            None
+        }
     }
-    if got.count == room.len() {
-        complain(out, b"standard input", b"is too long for a tuning");
-    }
-    got.count
-}
-
-// What a file was made of: so many keys of a tuning, or the notes of a scale.
-#[derive(Clone, Copy)]
-enum Made {
-    Keys(u64),
-    Notes,
 }
 
 // Puts how many keys were set, and how many were not.
 fn put_keys(out: &mut Output, n: u64) {
-    let set = util::groups::hold(n, KEYS as u64);
+    let set = n.min(KEYS as u64);
     units(out, set, b"key");
     say(out, b" set, ");
     number(out, KEYS as u64 - set);
     say(out, b" in equal temperament\n");
 }
 
-// Writes bytes as a new file, and says what was set.
-fn save_bytes(out: &mut Output, path: &[u8], bytes: &[u8], made: Made) {
-    if !output::save(out, path, bytes) {
-        return;
-    }
-    say(out, b", ");
-    match made {
-        Made::Keys(n) => put_keys(out, n),
-        Made::Notes => say(out, b"12 notes set\n"),
-    }
-}
-
-// Writes the frame of a message as a new file.
-fn save_message(
+// Writes the frame of a message as a new file, and says what was set.
+fn save_message<F: FnOnce(&mut Output)>(
     out: &mut Output,
     path: &[u8],
     m: UniversalNonRealTimeMsg,
     name: &[u8],
     entries: &[u64],
-    made: Made,
-) {
+    put_set: F,
+)
+    requires { F.IsAlwaysCallable put_set }
+{
     let mut frame = io::buffer();
     match writer::write(DeviceID::AllCall, m, name, entries, &mut frame, 0) {
-        Written::Frame(n) => save_bytes(out, path, util::bytes::sub_slice(&frame, 0, n), made),
-        Written::Refused(_) => complain(out, path, b"the message cannot be written"),
+        Ok(n) => {
+            if output::save(out, path, util::bytes::sub_slice(&frame, 0, n)) {
+                say(out, b", ");
+                put_set(out);
+            }
+        }
+        Err(_) => complain(out, path, b"the message cannot be written"),
     }
 }
 
 // Writes the key dump of lines as a new file.
 fn save_keys(out: &mut Output, path: &[u8], program: u8, name: &[u8], s: &[u8]) {
     let mut entries = [0u64; KEYS];
-    let l = keys::read(s, &mut entries);
-    if are_good(out, l) {
-        let dump = KeyBasedTuningDump {
-            tuning_bank_num: TuningBank::NoBank,
-            tuning_program_num: program,
-        };
-        save_message(
-            out,
-            path,
-            UniversalNonRealTimeMsg::KeyBasedTuningDump(dump),
-            name,
-            &entries,
-            Made::Keys(keys::keys_set(l)),
-        );
+    match keys::read(s, &mut entries) {
+        Ok(set) => {
+            let dump = KeyBasedTuningDump {
+                tuning_bank_num: None,
+                tuning_program_num: program,
+            };
+            let m = UniversalNonRealTimeMsg::KeyBasedTuningDump(dump);
+            save_message(out, path, m, name, &entries, |out| put_keys(out, set));
+        }
+        Err(e) => complain_lines(out, e),
     }
 }
 
 // Makes a key dump of the lines of an open file.
 pub fn tune(out: &mut Output, path: &[u8], program: &[u8], name: &[u8], input: &mut Source) {
-    let p = seven(out, program);
-    if LARGEST_U7 < p {
+    let Some(p) = seven(out, program) else {
         return;
-    }
+    };
     if !is_name(out, name) {
         return;
     }
     let mut room = io::large_buffer();
-    let n = read_input(out, input, &mut room);
-    if n < 65536 {
-        save_keys(out, path, p, name, util::bytes::sub_slice(&room, 0, n));
+    if let Some(n) = read_input(out, input, &mut room) {
+        save_keys(out, path, p, name, &room[..n]);
     }
 }
 
@@ -128,17 +109,12 @@ fn scale_of(values: &[u64; 12], bank: u8, program: u8) -> UniversalNonRealTimeMs
 // Writes the scale dump of words as a new file.
 fn save_scale(out: &mut Output, path: &[u8], bank: u8, program: u8, name: &[u8], s: &[u8]) {
     let mut values = [scale::ZERO; 12];
-    let v = scale::read(s, &mut values);
-    if are_values(out, v) {
-        let none = [0u64; 1];
-        save_message(
-            out,
-            path,
-            scale_of(&values, bank, program),
-            name,
-            &none,
-            Made::Notes,
-        );
+    match scale::read(s, &mut values) {
+        Ok(()) => {
+            let m = scale_of(&values, bank, program);
+            save_message(out, path, m, name, &[], |out| say(out, b"12 notes set\n"));
+        }
+        Err(e) => complain_values(out, e),
     }
 }
 
@@ -151,20 +127,17 @@ pub fn make_scale(
     name: &[u8],
     input: &mut Source,
 ) {
-    let b = seven(out, bank);
-    if LARGEST_U7 < b {
+    let Some(b) = seven(out, bank) else {
         return;
-    }
-    let p = seven(out, program);
-    if LARGEST_U7 < p {
+    };
+    let Some(p) = seven(out, program) else {
         return;
-    }
+    };
     if !is_name(out, name) {
         return;
     }
     let mut room = io::large_buffer();
-    let n = read_input(out, input, &mut room);
-    if n < 65536 {
-        save_scale(out, path, b, p, name, util::bytes::sub_slice(&room, 0, n));
+    if let Some(n) = read_input(out, input, &mut room) {
+        save_scale(out, path, b, p, name, &room[..n]);
     }
 }

@@ -1,39 +1,30 @@
 -- Laws of words: a byte more of a count, of a start and of a word; a word in front of others.
 -- Assumes nothing.
 use mathlib.Core.Path.{◌≡◌, refl, ap, ◌∙◌}
-use mathlib.Core.Bool.{Bool, true, false}
+use mathlib.Core.Bool.{Bool, cond, true, false, not}
 use mathlib.Core.List.{List, [], ◌∷◌, ◌++◌}
 use Prim.Native.Nat.{ℕ, suc, ◌+◌, ◌-◌, ◌≤◌, ◌<◌}
-use native.Mathlib.Nat.{zero-add}
 use native.Mathlib.Numerals.{add-one}
 use native.Mathlib.Omega.{arith}
 use lib.Dec.{eqb}
 use lib.ListN.{length, take, drop, get_or, drop_of_length-le}
 use lib.Seq.{drop-cons, take-append_seam, drop-append-add}
 use borrow.Author.Tests.{ne_eqb, eq-eqb}
+use Rattle.std.specs.List.{count_by, prefix_len}
+use Rattle.std.proofs.lemmas.List.Recursion.{is_count_by, is_position_or_len}
 use Rattle.util.specs.Pick.{pick}
 use Rattle.desk_commands.specs.Words.{word_count, first_length, start_at, word_at}
 use Rattle.desk_commands.specs.Promises.{Plain}
 
 -- ---- a count
 
-pub counted_most : (t : Bool) (n : ℕ) → pick t (n + 1) n ≤ n + 1
-counted_most true n = omega arith
-counted_most false n = omega arith
+counted : (t : Bool) (n : ℕ) → pick t (suc n) n ≡ cond t (1 + n) n
+counted true n = omega arith
+counted false n = refl
 
-counted_more : (t : Bool) (n k : ℕ) → n + pick t (suc k) k ≡ pick t (n + 1) n + k
-counted_more true n k = omega arith
-counted_more false n k = omega arith
-
-pub count_past : (s : List ℕ) (i : ℕ) → length s ≤ i → word_count (drop i s) ≡ 0
+pub count_is : (l : List ℕ) → word_count l ≡ count_by (λ b. eqb b 0) l
 unfolding word_count
-count_past s i h = rw (drop_of_length-le s {i = i} h)
-
-pub count_turn : (s : List ℕ) (i n : ℕ) → i < length s
-    → n + word_count (drop i s) ≡ pick (eqb (get_or s i 0) 0) (n + 1) n + word_count (drop (i + 1) s)
-unfolding word_count
-count_turn s i n h =
-    rw (add-one i, drop-cons s i 0) (counted_more (eqb (get_or s i 0) 0) n (word_count (drop (suc i) s)))
+count_is = is_count_by word_count (λ b. eqb b 0) refl (λ b l. counted (eqb b 0) (word_count l))
 
 -- ---- where a word begins
 
@@ -41,12 +32,6 @@ pub start_none : (l : List ℕ) → start_at l 0 ≡ 0
 unfolding start_at
 start_none [] = refl
 start_none (b ∷ l) = refl
-
--- nothing is passed at first
-pub start_first : (s : List ℕ) (number : ℕ) → 0 + start_at (drop 0 s) (number - 0) ≡ start_at s number
-start_first s number =
-    let z : number - 0 ≡ number = omega arith in
-    zero-add (start_at s (number - 0)) ∙ ap (start_at s) z
 
 start_empty : (k : ℕ) → start_at [] k ≡ 0
 unfolding start_at
@@ -60,37 +45,33 @@ start_more : (s : List ℕ) (i m : ℕ) → i < length s
 unfolding start_at
 start_more s i m h = rw (add-one i, drop-cons s i 0)
 
-left_words : (t : Bool) (number n : ℕ) → n < number → pick t (number - n - 1) (suc (number - n - 1)) ≡ number - pick t (n + 1) n
-left_words true number n h = omega arith
-left_words false number n h = omega arith
+module _ (s : List ℕ) (i left : ℕ) (h : i < length s) (some : left ≡ 0 → ⊥) where
+  more : start_at (drop i s) left ≡ suc (start_at (drop (i + 1) s) (pick (eqb (get_or s i 0) 0) (left - 1) (suc (left - 1))))
+  more =
+      let e : left ≡ suc (left - 1) = omega arith in
+      ap (start_at (drop i s)) e ∙ start_more s i (left - 1) h
 
-pub counted_within : (t : Bool) (number n : ℕ) → n < number → pick t (n + 1) n ≤ number
-counted_within true number n h = omega arith
-counted_within false number n h = omega arith
+  -- behind a byte that ends a word
+  pub start_end : get_or s i 0 ≡ 0 → start_at (drop i s) left ≡ suc (start_at (drop (i + 1) s) (left - 1))
+  start_end e = rw (more, eq-eqb (get_or s i 0) 0 e)
 
-pub start_turn : (s : List ℕ) (i number n : ℕ) → i < length s → n < number
-    → i + start_at (drop i s) (number - n) ≡ i + 1 + start_at (drop (i + 1) s) (number - pick (eqb (get_or s i 0) 0) (n + 1) n)
-start_turn s i number n h q =
-    let e : number - n ≡ suc (number - n - 1) = omega arith in
-    let a : start_at (drop i s) (number - n) ≡ start_at (drop i s) (suc (number - n - 1)) = ap (start_at (drop i s)) e in
-    let b = start_more s i (number - n - 1) h in
-    let d = ap (start_at (drop (i + 1) s)) (left_words (eqb (get_or s i 0) 0) number n q) in
-    omega (arith, a, b, d)
+  -- behind another byte
+  pub start_inside : (get_or s i 0 ≡ 0 → ⊥) → start_at (drop i s) left ≡ suc (start_at (drop (i + 1) s) left)
+  start_inside n =
+      let e : suc (left - 1) ≡ left = omega arith in
+      more
+      ∙ ap (λ (t : Bool). suc (start_at (drop (i + 1) s) (pick t (left - 1) (suc (left - 1))))) (ne_eqb (get_or s i 0) 0 n)
+      ∙ ap (λ (k : ℕ). suc (start_at (drop (i + 1) s) k)) e
 
 -- ---- where a word ends
 
-pub first_past : (s : List ℕ) (i : ℕ) → length s ≤ i → first_length (drop i s) ≡ 0
+before : (t : Bool) (n : ℕ) → pick t 0 (suc n) ≡ cond t 0 (1 + n)
+before true n = refl
+before false n = omega arith
+
+pub first_is : (l : List ℕ) → first_length l ≡ prefix_len (λ b. not (eqb b 0)) l
 unfolding first_length
-first_past s i h = rw (drop_of_length-le s {i = i} h)
-
-module _ (s : List ℕ) (i : ℕ) (h : i < length s) where
-  pub first_stop : get_or s i 0 ≡ 0 → first_length (drop i s) ≡ 0
-  unfolding first_length
-  first_stop e = rw (drop-cons s i 0, eq-eqb (get_or s i 0) 0 e)
-
-  pub first_more : (get_or s i 0 ≡ 0 → ⊥) → first_length (drop i s) ≡ suc (first_length (drop (i + 1) s))
-  unfolding first_length
-  first_more n = rw (add-one i, drop-cons s i 0, ne_eqb (get_or s i 0) 0 n)
+first_is = is_position_or_len first_length (λ b. eqb b 0) refl (λ b l. before (eqb b 0) (first_length l))
 
 -- the part from a start to its end
 pub word_part : (s : List ℕ) (n a e : ℕ) → a ≡ start_at s n → e ≡ a + first_length (drop a s) → take (e - a) (drop a s) ≡ word_at s n

@@ -1,18 +1,18 @@
 -- `desk_print::hex_all` meets its contract. The invariant: the texts of the bytes so far are put.
 -- Assumes nothing.
-use Rattle.desk_print.proofs.Laws.{put_put}
+use native.Mathlib.Omega.{arith}
 use Rattle.desk_print.specs.Text.{spaced_hex}
+use Rattle.desk_print.proofs.Laws.{put_put}
 use Rattle.desk_print.proofs.Texts.{each_begin, each_turn, each_end}
-use borrow.Author.Rules.{rules}
 use Rattle.desk_print.proofs.hex_all.Goals as goal
 
-pub loop-i-init : goal.loop-i-init
-loop-i-init c = (search rules, each_begin spaced_hex c.args.s.now c.args.out.now)
+pub loop-b-init : goal.loop-b-init
+loop-b-init c = each_begin spaced_hex c.args.s.now c.args.out.now
 
-pub loop-i-preserved : goal.loop-i-preserved
-loop-i-preserved c =
-    let l = c.loop-i in
-    (search rules, each_turn spaced_hex c.args.s.now l.i c.loop-i-test.true l.invariant.1 (put_put c.put.ensures c.hex.ensures))
+pub loop-b-preserved : goal.loop-b-preserved
+loop-b-preserved c =
+    let l = c.loop-b in
+    each_turn spaced_hex c.args.s.now l.b-index (omega arith) l.invariant (put_put c.put.ensures c.hex.ensures)
 
 pub returns : goal.returns
-returns c = each_end spaced_hex c.args.s.now c.loop-i.i c.loop-i-test.false c.loop-i.invariant.1
+returns c = each_end spaced_hex c.args.s.now c.loop-b.b-index (omega arith) c.loop-b.invariant

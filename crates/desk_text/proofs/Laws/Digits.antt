@@ -8,7 +8,8 @@ use native.Mathlib.Numerals.{add-one}
 use native.Mathlib.Omega.{arith, min_cases}
 use lib.ListN.{length, drop, get_or}
 use lib.Dec.{leb}
-use borrow.Author.Tests.{leb-true}
+use borrow.Author.Tests.{leb-true, leb-false}
+use mathlib.Core.Logic.{◌⊎◌, inl, inr, ⊎_elim}
 use Rattle.desk_text.specs.Spans.{is_digit}
 use Rattle.desk_text.specs.Cents.{most, value_after, padded}
 
@@ -57,12 +58,6 @@ joined_value whole decimals a b p q =
     q ∙ ap (λ (m : ℕ). min (value_after m (padded 13 decimals)) most) (p ∙ ap (λ (l : List ℕ). min (value_after 0 l) most) (padded_all whole))
     ∙ held_before (value_after 0 whole) (padded 13 decimals)
 
--- a byte within bytes is there whatever stands past their end
-pub same_within : (s : List ℕ) (i d e : ℕ) → i < length s → get_or s i d ≡ get_or s i e
-same_within [] i d e h = absurd (omega arith)
-same_within (b ∷ s) zero d e h = refl
-same_within (b ∷ s) (suc i) d e h = same_within s i d e (omega arith)
-
 pub and_left : (a b : Bool) → (a && b) ≡ true → a ≡ true
 and_left true b h = refl
 and_left false b h = h
@@ -70,6 +65,10 @@ and_left false b h = h
 pub and_right : (a b : Bool) → (a && b) ≡ true → b ≡ true
 and_right true b h = h
 and_right false b h = let z : ◌≡◌ {A = Bool} false true = h in let n : ◌≡◌ {A = ℕ} 0 1 = cc in absurd (omega arith)
+
+pub either : (t : Bool) → (t ≡ true) ⊎ (t ≡ false)
+either true = inl refl
+either false = inr refl
 
 -- the bounds of a digit
 pub digit_least : (b : ℕ) → is_digit b ≡ true → 48 ≤ b
@@ -79,6 +78,15 @@ digit_least b h = leb-true 48 b (and_left (leb 48 b) (leb b 57) h)
 pub digit_most : (b : ℕ) → is_digit b ≡ true → b ≤ 57
 unfolding is_digit
 digit_most b h = leb-true b 57 (and_right (leb 48 b) (leb b 57) h)
+
+-- a byte that is no digit is below all of them, or above
+pub not_digit : (b : ℕ) → is_digit b ≡ false → (b < 48) ⊎ ((48 ≤ b) × (57 < b))
+unfolding is_digit
+not_digit b h =
+    ⊎_elim
+    (λ t. inr (leb-true 48 b t, leb-false b 57 (rw t at h)))
+    (λ t. inl (leb-false 48 b t))
+    (either (leb 48 b))
 
 -- one digit more, and the digits behind it
 pub turned : (v : ℕ) (s : List ℕ) (count i : ℕ) → i < count

@@ -9,9 +9,8 @@ use native.Mathlib.Omega.{arith}
 use borrow.Author.Tests.{eqb-true}
 use lib.ListN.{length}
 use Rattle.util.specs.Pick.{pick}
-use Rattle.desk_text.specs.declared.Number.TheVariants.{Is, Nothing}
-use Rattle.desk_text.specs.declared.spans.Until.TheVariants.{Other}
-use Rattle.desk_text.specs.Spans.{is_digit, stops, span}
+use Rattle.std.specs.Prelude.{Some, None}
+use Rattle.desk_text.specs.Spans.{is_digit, span}
 use Rattle.desk_text.specs.Cents.{value_after, padded, are_digits}
 use Rattle.desk_text.proofs.Laws.Digits.{digit_most}
 
@@ -24,11 +23,11 @@ first_digit : (t : Bool) (m n : ℕ) → pick (not t) 0 (suc m) ≡ suc n → (t
 first_digit true m n h = (refl, omega arith)
 first_digit false m n h = absurd (omega (arith, h))
 
-from_span : (l : List ℕ) → span (stops Other) l ≡ length l → Digits l
-unfolding span stops
+from_span : (l : List ℕ) → span (λ b. not (is_digit b)) l ≡ length l → Digits l
+unfolding span
 from_span [] h = none
 from_span (b ∷ l) h =
-    let f = first_digit (is_digit b) (span (stops Other) l) (length l) h in
+    let f = first_digit (is_digit b) (span (λ b. not (is_digit b)) l) (length l) h in
     more f.0 (from_span l f.1)
 
 pub from_digits : (l : List ℕ) → are_digits l ≡ true → Digits l
@@ -70,7 +69,7 @@ nearest_exact rs h a m p u v lo hi =
     (omega arith, omega arith)
 
 -- what a number of digits and decimals says
-pub is_joined : (t u : Bool) (v n : ℕ) → pick t (pick u Nothing (Is v)) Nothing ≡ Is n → (t ≡ true) × (v ≡ n)
+pub is_joined : (t u : Bool) (v n : ℕ) → pick t (pick u None (Some v)) None ≡ Some n → (t ≡ true) × (v ≡ n)
 is_joined true true v n h = let z : ◌≡◌ {A = ℕ} 0 1 = cc in absurd (omega arith)
 is_joined true false v n h = (refl, cc)
 is_joined false u v n h = let z : ◌≡◌ {A = ℕ} 0 1 = cc in absurd (omega arith)

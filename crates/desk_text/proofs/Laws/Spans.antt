@@ -1,31 +1,31 @@
 -- Laws of stretches: a byte that ends one, a byte more, the end of the text.
 -- Assumes nothing.
-use mathlib.Core.Path.{◌≡◌, refl}
-use mathlib.Core.Bool.{Bool, true, false, ◌&&◌}
+use mathlib.Core.Path.{◌≡◌, refl, ap, ◌∙◌}
+use mathlib.Core.Bool.{Bool, true, false, cond, not}
 use mathlib.Core.List.{List, [], ◌∷◌}
-use Prim.Native.Nat.{ℕ, zero, suc, ◌+◌, ◌≤◌, ◌<◌}
+use Prim.Native.Nat.{ℕ, suc, ◌+◌, ◌≤◌, ◌<◌}
 use native.Mathlib.Numerals.{add-one}
 use native.Mathlib.Omega.{arith}
-use lib.ListN.{length, take, drop, get_or, drop_of_length-le, length-drop}
-use lib.Seq.{drop-cons, take_all}
-use lib.Dec.{eqb}
-use borrow.Author.Tests.{ne_eqb}
+use lib.ListN.{length, drop, get_or, drop_of_length-le}
+use lib.Seq.{drop-cons}
+use Rattle.std.specs.Prelude.{Option, Some, None, IfSome}
+use Rattle.std.specs.Option.{unwrap_or}
+use Rattle.std.specs.List.{position_or_len}
+use lib.Dec.{ltb}
+use borrow.Author.Tests.{ltb-false}
 use Rattle.util.specs.Pick.{pick}
 use Rattle.desk_text.specs.Spans.{is_blank, span}
-use Rattle.desk_text.specs.Lines.{begins_comment, said_length, end_length}
+use Rattle.desk_text.specs.Lines.{begins_comment, said_length}
 
-pub span_past : (p : ℕ → Bool) (s : List ℕ) (i : ℕ) → length s ≤ i → span p (drop i s) ≡ 0
+-- the length of the front that does not pass a test is the place that a search finds, or the length
+turn : (t : Bool) (m n : ℕ) → m ≡ n → cond (not t) (1 + m) 0 ≡ pick t 0 (suc n)
+turn true m n e = refl
+turn false m n e = omega arith
+
+span_is : (p : ℕ → Bool) (l : List ℕ) → position_or_len p l ≡ span p l
 unfolding span
-span_past p s i h = rw (drop_of_length-le s {i = i} h)
-
-module _ (p : ℕ → Bool) (s : List ℕ) (i : ℕ) (h : i < length s) where
-  pub span_stop : p (get_or s i 0) ≡ true → span p (drop i s) ≡ 0
-  unfolding span
-  span_stop t = rw (drop-cons s i 0, t)
-
-  pub span_more : p (get_or s i 0) ≡ false → span p (drop i s) ≡ suc (span p (drop (i + 1) s))
-  unfolding span
-  span_more t = rw (add-one, drop-cons s i 0, t)
+span_is p [] = refl
+span_is p (b ∷ l) = turn (p b) (position_or_len p l) (span p l) (span_is p l)
 
 pick_most : (t : Bool) (n m : ℕ) → n ≤ m → pick t 0 (suc n) ≤ suc m
 pick_most true n m h = omega arith
@@ -35,6 +35,21 @@ pub span_most : (p : ℕ → Bool) (l : List ℕ) → span p l ≤ length l
 unfolding span
 span_most p [] = omega arith
 span_most p (b ∷ l) = pick_most (p b) (span p l) (length l) (span_most p l)
+
+found : (t : Bool) (n m : ℕ) → n ≤ m → ltb n m ≡ t → unwrap_or (cond t (Some n) None) m ≡ n
+found true n m h e = refl
+found false n m h e = omega (arith, ltb-false n m e)
+
+pub span_found : (p : ℕ → Bool) (l : List ℕ) (r : Option ℕ) → r ≡ cond (ltb (position_or_len p l) (length l)) (Some (position_or_len p l)) None
+    → unwrap_or r (length l) ≡ span p l
+span_found p l r e =
+    let n = position_or_len p l in
+    let h : n ≤ length l = omega (arith, span_is p l, span_most p l) in
+    ap (λ (o : Option ℕ). unwrap_or o (length l)) e ∙ found (ltb n (length l)) n (length l) h refl ∙ span_is p l
+
+pub found_within : (r : Option ℕ) (m n : ℕ) → m ≡ n → IfSome r (λ i. i < m) → unwrap_or r n ≤ n
+found_within (Some i) m n e h = omega (arith, h)
+found_within None m n e h = omega arith
 
 pub said_past : (t : Bool) (s : List ℕ) (i : ℕ) → length s ≤ i → said_length t (drop i s) ≡ 0
 unfolding said_length
@@ -49,28 +64,3 @@ module _ (m : Bool) (s : List ℕ) (i : ℕ) (h : i < length s) where
       → said_length m (drop i s) ≡ suc (said_length (is_blank (get_or s i 0)) (drop (i + 1) s))
   unfolding said_length
   said_more t = rw (add-one, drop-cons s i 0, t)
-
--- all bytes from a place on
-pub rest_of : (s : List ℕ) (i : ℕ) → take (length s) (drop i s) ≡ drop i s
-rest_of s i = take_all (length s) (drop i s) (omega (arith, length-drop i s))
-
-pub end_past : (s : List ℕ) (i : ℕ) → length s ≤ i → end_length (drop i s) ≡ 0
-unfolding end_length
-end_past s i h = rw (drop_of_length-le s {i = i} h)
-
-end_suc : (s : List ℕ) (i : ℕ) → i < length s → end_length (drop i s) ≡ pick (eqb (get_or s i 0) 13 && eqb (get_or s (suc i) 0) 10) 2 1
-unfolding end_length
-end_suc [] i h = absurd (omega arith)
-end_suc (b ∷ s) zero h = refl
-end_suc (b ∷ s) (suc i) h = end_suc s i (omega arith)
-
-pub end_at : (s : List ℕ) (i : ℕ) → i < length s → end_length (drop i s) ≡ pick (eqb (get_or s i 0) 13 && eqb (get_or s (i + 1) 0) 10) 2 1
-end_at s i h = rw add-one (end_suc s i h)
-
-pick_no_right : (a : Bool) → ◌≡◌ {A = ℕ} (pick (a && false) 2 1) 1
-pick_no_right true = refl
-pick_no_right false = refl
-
--- a line end of one byte, by the byte behind it
-pub end_one : (s : List ℕ) (i : ℕ) → i < length s → (get_or s (i + 1) 0 ≡ 10 → ⊥) → end_length (drop i s) ≡ 1
-end_one s i h n = rw (end_at s i h, ne_eqb _ _ n) (pick_no_right (eqb (get_or s i 0) 13))

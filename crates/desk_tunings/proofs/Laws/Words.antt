@@ -2,23 +2,24 @@
 -- Assumes nothing.
 use borrow.Author.Tests.{le-leb, lt-leb}
 use mathlib.Core.Path.{◌≡◌, refl, sym, ap, ◌∙◌}
-use mathlib.Core.Bool.{true, false, ◌&&◌}
+use mathlib.Core.Bool.{Bool, true, false, not, ◌&&◌, ◌||◌}
 use mathlib.Core.Logic.{⊎_elim}
 use mathlib.Core.List.{List, [], ◌∷◌}
-use Prim.Native.Nat.{ℕ, zero, suc, ◌+◌, ◌-◌, ◌≤◌, ◌<◌}
+use Prim.Native.Nat.{ℕ, zero, suc, ◌+◌, ◌≤◌, ◌<◌}
 use native.Mathlib.Numerals.{add-one}
 use native.Mathlib.Omega.{arith}
-use lib.ListN.{length, take, drop, get_or, length-drop, drop_of_length-le}
-use lib.Seq.{drop-drop, drop-cons, get_or-drop}
+use lib.ListN.{length, drop, get_or, length-drop, drop_of_length-le}
+use lib.Dec.{eqb}
+use lib.Seq.{drop-cons}
+use Rattle.std.specs.Prelude.{Ok, Err}
 use Rattle.util.specs.Pick.{pick}
-use Rattle.desk_text.specs.declared.spans.Until.TheVariants.{Blank, Word}
-use Rattle.desk_text.specs.Spans.{is_line_end, is_blank, stops, span}
-use Rattle.desk_text.specs.Lines.{begins_comment, word_of}
+use Rattle.desk_text.specs.Spans.{is_line_end, is_blank, span}
+use Rattle.desk_text.specs.Lines.{begins_comment, word_of, from_word}
 use Rattle.desk_text.specs.Cents.{cents_of}
-use Rattle.desk_tunings.specs.declared.scale.Values.{Values}
-use Rattle.desk_tunings.specs.declared.scale.Values.TheVariants.{TooMany}
-use Rattle.desk_tunings.specs.Scale.{word_answer, word_values, good_values, counted_as, words_within, words_of, read_words, is_whole_value, are_whole_values}
-use Rattle.desk_tunings.proofs.Laws.Texts.{either}
+use Rattle.desk_text.proofs.Laws.Digits.{either}
+use Rattle.desk_tunings.specs.declared.scale.ValuesError.{ValuesError}
+use Rattle.desk_tunings.specs.declared.scale.ValuesError.TheVariants.{TooMany}
+use Rattle.desk_tunings.specs.Scale.{Values, word_answer, word_values, good_values, counted_as, words_within, words_of, read_words, is_whole_value, are_whole_values}
 
 words_enough : (n m : ℕ) (t : List ℕ) → length t ≤ n → length t ≤ m → words_within n t ≡ words_within m t
 unfolding words_within
@@ -30,96 +31,96 @@ words_enough (suc n) zero (b ∷ l) p q = absurd (omega arith)
 words_enough (suc n) (suc m) [] p q = refl
 words_enough (suc n) (suc m) (b ∷ l) p q =
     let c = length-drop (span is_line_end l) l in
-    let w = length-drop (span (stops Blank) l) l in
-    rw (words_enough n m l (omega arith) (omega arith), words_enough n m (drop (span is_line_end l) l) (omega arith) (omega arith), words_enough n m (drop (span (stops Blank) l) l) (omega arith) (omega arith))
+    let w = length-drop (span is_blank l) l in
+    rw (words_enough n m l (omega arith) (omega arith), words_enough n m (drop (span is_line_end l) l) (omega arith) (omega arith), words_enough n m (drop (span is_blank l) l) (omega arith) (omega arith))
 
 module _ (b : ℕ) (l : List ℕ) where
-  words_cons : words_of (b ∷ l) ≡ pick (is_blank b) (words_of l) (pick (begins_comment true b) (words_of (drop (span is_line_end l) l)) (word_of (b ∷ l) ∷ words_of (drop (span (stops Blank) l) l)))
+  words_cons : words_of (b ∷ l) ≡ pick (is_blank b) (words_of l) (pick (begins_comment true b) (words_of (drop (span is_line_end l) l)) (word_of (b ∷ l) ∷ words_of (drop (span is_blank l) l)))
   unfolding words_of words_within
   words_cons =
       let x = drop (span is_line_end l) l in
-      let y = drop (span (stops Blank) l) l in
+      let y = drop (span is_blank l) l in
       let c = length-drop (span is_line_end l) l in
-      let w = length-drop (span (stops Blank) l) l in
+      let w = length-drop (span is_blank l) l in
       rw (words_enough (length l) (length x) x (omega arith) (omega arith), words_enough (length l) (length y) y (omega arith) (omega arith))
 
   blank_first : is_blank b ≡ true → words_of (b ∷ l) ≡ words_of l
   blank_first e = words_cons ∙ rw e
 
-  comment_first : is_blank b ≡ false → begins_comment true b ≡ true → words_of (b ∷ l) ≡ words_of (drop (span is_line_end l) l)
-  comment_first e f = words_cons ∙ rw (e, f)
-
-  word_first : is_blank b ≡ false → begins_comment true b ≡ false → words_of (b ∷ l) ≡ word_of (b ∷ l) ∷ words_of (drop (span (stops Blank) l) l)
-  word_first e f = words_cons ∙ rw (e, f)
-
-  word_length : is_blank b ≡ false → word_of (b ∷ l) ≡ take (suc (span (stops Blank) l)) (b ∷ l)
-  unfolding word_of span stops
-  word_length e = rw e
-
-skip_words : (t : List ℕ) → words_of (drop (span (stops Word) t) t) ≡ words_of t
-unfolding span stops
+pub skip_words : (t : List ℕ) → words_of (from_word t) ≡ words_of t
+unfolding span from_word
 skip_words [] = refl
 skip_words (b ∷ l) = ⊎_elim (λ e. rw e (skip_words l ∙ sym (blank_first b l e))) (λ e. rw e) (either (is_blank b))
 
-skip_stop : (t : List ℕ) → span (stops Word) t < length t → is_blank (get_or t (span (stops Word) t) 0) ≡ false
-unfolding span stops
+pub skip_stop : (t : List ℕ) → 0 < length (from_word t) → is_blank (get_or (from_word t) 0 0) ≡ false
+unfolding span from_word
 skip_stop [] h = absurd (omega arith)
 skip_stop (b ∷ l) h =
     ⊎_elim (λ e. let k = rw e at h in rw e (skip_stop l (omega arith))) (λ e. rw e e) (either (is_blank b))
 
--- the place where blanks end
-module _ (s : List ℕ) (from at : ℕ) (e : at ≡ from + span (stops Word) (drop from s)) where
-  pub skipped_words : words_of (drop at s) ≡ words_of (drop from s)
-  skipped_words =
-      ap (λ (n : ℕ). words_of (drop n s)) e ∙ ap words_of (sym (drop-drop (span (stops Word) (drop from s)) from s)) ∙ skip_words (drop from s)
+pub skip_length : (t : List ℕ) → length (from_word t) ≤ length t
+unfolding from_word
+skip_length t = omega (arith, length-drop (span (λ b. not (is_blank b)) t) t)
 
-  pub skipped_stop : at < length s → is_blank (get_or s at 0) ≡ false
-  skipped_stop h =
-      let d = length-drop from s in
-      ap (λ (n : ℕ). is_blank (get_or s n 0)) e ∙ ap is_blank (sym (get_or-drop from s (span (stops Word) (drop from s)) 0)) ∙ skip_stop (drop from s) (omega arith)
+or_right : (a b : Bool) → (a || b) ≡ false → b ≡ false
+or_right true b h = let z : ◌≡◌ {A = ℕ} 0 1 = cc in absurd (omega arith)
+or_right false b h = h
 
--- what begins at a place: a comment, or a word
-module _ (s : List ℕ) (at end : ℕ) (h : at < length s) where
-  at_first : drop at s ≡ get_or s at 0 ∷ drop (at + 1) s
-  at_first = rw (add-one, drop-cons s at 0)
+-- a line end is a blank
+not_end : (b : ℕ) → is_blank b ≡ false → is_line_end b ≡ false
+unfolding is_blank
+not_end b h = or_right (eqb b 9) (is_line_end b) (or_right (eqb b 32) (eqb b 9 || is_line_end b) h)
 
-  pub comment_turn : end ≡ at + 1 + span is_line_end (drop (at + 1) s) → is_blank (get_or s at 0) ≡ false → begins_comment true (get_or s at 0) ≡ true → words_of (drop at s) ≡ words_of (drop end s)
-  comment_turn e f g =
-      ap words_of at_first ∙ comment_first (get_or s at 0) (drop (at + 1) s) f g
-      ∙ ap words_of (drop-drop (span is_line_end (drop (at + 1) s)) (at + 1) s ∙ ap (λ (n : ℕ). drop n s) (sym e))
+-- a text whose first byte is no blank: a comment stands first, or a word
+module _ (b : ℕ) (l : List ℕ) (e : is_blank b ≡ false) where
+  past_line : drop (span is_line_end (b ∷ l)) (b ∷ l) ≡ drop (span is_line_end l) l
+  unfolding span
+  past_line = rw (not_end b e)
 
-  word_is : end ≡ at + 1 + span (stops Blank) (drop (at + 1) s) → is_blank (get_or s at 0) ≡ false → word_of (get_or s at 0 ∷ drop (at + 1) s) ≡ take (end - at) (drop at s)
-  word_is e f =
-      let k : suc (span (stops Blank) (drop (at + 1) s)) ≡ end - at = omega arith in
-      word_length (get_or s at 0) (drop (at + 1) s) f
-      ∙ ap (λ (n : ℕ). take n (get_or s at 0 ∷ drop (at + 1) s)) k ∙ ap (λ (t : List ℕ). take (end - at) t) (sym at_first)
+  past_word : drop (span is_blank (b ∷ l)) (b ∷ l) ≡ drop (span is_blank l) l
+  unfolding span
+  past_word = rw e
 
-  pub word_turn : end ≡ at + 1 + span (stops Blank) (drop (at + 1) s) → is_blank (get_or s at 0) ≡ false → begins_comment true (get_or s at 0) ≡ false → words_of (drop at s) ≡ take (end - at) (drop at s) ∷ words_of (drop end s)
-  word_turn e f g =
-      ap words_of at_first ∙ word_first (get_or s at 0) (drop (at + 1) s) f g
-      ∙ ap (λ (w : List ℕ). w ∷ words_of (drop (span (stops Blank) (drop (at + 1) s)) (drop (at + 1) s))) (word_is e f)
-      ∙ ap (λ (t : List ℕ). take (end - at) (drop at s) ∷ words_of t) (drop-drop (span (stops Blank) (drop (at + 1) s)) (at + 1) s ∙ ap (λ (n : ℕ). drop n s) (sym e))
+pub comment_turn : (t : List ℕ) → 0 < length t → is_blank (get_or t 0 0) ≡ false → begins_comment true (get_or t 0 0) ≡ true
+    → words_of (drop (span is_line_end t) t) ≡ words_of t
+comment_turn [] h e f = absurd (omega arith)
+comment_turn (b ∷ l) h e f = ap words_of (past_line b l e) ∙ sym (words_cons b l ∙ rw (e, f))
 
--- a word and the words behind it
-module _ (w : List ℕ) (ws : List (List ℕ)) (n : ℕ) (vs vs' : List ℕ) (v : Values) (h : n < length vs)
-    (a : v ≡ word_answer (cents_of w) n) (b : vs' ≡ word_values (cents_of w) n vs) where
-  pub good_word : good_values v ≡ true → read_words ws (n + 1) vs' ≡ read_words (w ∷ ws) n vs
+pub comment_less : (t : List ℕ) → 0 < length t → is_blank (get_or t 0 0) ≡ false → length (drop (span is_line_end t) t) < length t
+comment_less [] h e = absurd (omega arith)
+comment_less (b ∷ l) h e = rw (past_line b l e) (omega (arith, length-drop (span is_line_end l) l))
+
+word_turn : (t : List ℕ) → 0 < length t → is_blank (get_or t 0 0) ≡ false → begins_comment true (get_or t 0 0) ≡ false
+    → words_of t ≡ word_of t ∷ words_of (drop (span is_blank t) t)
+word_turn [] h e f = absurd (omega arith)
+word_turn (b ∷ l) h e f = words_cons b l ∙ rw (e, f, past_word b l e)
+
+pub word_less : (t : List ℕ) → 0 < length t → is_blank (get_or t 0 0) ≡ false → length (drop (span is_blank t) t) < length t
+word_less [] h e = absurd (omega arith)
+word_less (b ∷ l) h e = rw (past_word b l e) (omega (arith, length-drop (span is_blank l) l))
+
+-- a text that begins with a word, and the text behind the word
+module _ (t : List ℕ) (n : ℕ) (vs vs' : List ℕ) (h : 0 < length t) (e : is_blank (get_or t 0 0) ≡ false) (f : begins_comment true (get_or t 0 0) ≡ false) where
+  pub no_room : length vs ≤ n → ◌≡◌ {A = Values × List ℕ} (Err TooMany, vs) (read_words (words_of t) n vs)
   unfolding read_words
-  good_word g = rw (lt-leb _ _ h, ← a, ← b, g)
+  no_room r = rw (word_turn t h e f, le-leb _ _ r)
 
-  pub wrong_word : good_values v ≡ false → ◌≡◌ {A = Values × List ℕ} (v, vs') (read_words (w ∷ ws) n vs)
-  unfolding read_words
-  wrong_word g = rw (lt-leb _ _ h, ← a, ← b, g)
+  module _ (r : n < length vs) (b : vs' ≡ word_values (cents_of (word_of t)) n vs) where
+    pub good_word : (u : Unit {0}) → ◌≡◌ {A = Values} (Ok u) (word_answer (cents_of (word_of t)) n)
+        → read_words (words_of (drop (span is_blank t) t)) (n + 1) vs' ≡ read_words (words_of t) n vs
+    unfolding read_words good_values
+    good_word u a = rw (word_turn t h e f, lt-leb _ _ r, ← a, ← b)
 
--- there is no place left
-pub no_room : (w : List ℕ) (ws : List (List ℕ)) (n : ℕ) (vs : List ℕ) → length vs ≤ n → ◌≡◌ {A = Values × List ℕ} (TooMany, vs) (read_words (w ∷ ws) n vs)
-unfolding read_words
-no_room w ws n vs h = rw (le-leb _ _ h)
+    pub wrong_word : (x : ValuesError) → ◌≡◌ {A = Values} (Err x) (word_answer (cents_of (word_of t)) n)
+        → ◌≡◌ {A = Values × List ℕ} (Err x, vs') (read_words (words_of t) n vs)
+    unfolding read_words good_values
+    wrong_word x a = rw (word_turn t h e f, lt-leb _ _ r, ← a, ← b)
 
 -- no word is left
-pub no_word : (s : List ℕ) (at n : ℕ) (vs : List ℕ) (v : Values) → v ≡ counted_as n → length s ≤ at → ◌≡◌ {A = Values × List ℕ} (v, vs) (read_words (words_of (drop at s)) n vs)
+pub no_word : (t : List ℕ) (n : ℕ) (vs : List ℕ) (v : Values) → v ≡ counted_as n → length t ≡ 0 → ◌≡◌ {A = Values × List ℕ} (v, vs) (read_words (words_of t) n vs)
 unfolding read_words words_of words_within
-no_word s at n vs v e h = rw (drop_of_length-le s {i = at} h, e)
+no_word [] n vs v e h = rw e
+no_word (b ∷ t) n vs v e h = absurd (omega arith)
 
 -- the values from a place on
 module _ (vs : List ℕ) (i : ℕ) where

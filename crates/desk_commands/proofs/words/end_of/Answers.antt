@@ -1,28 +1,21 @@
--- `desk_commands::words::end_of` meets its contract. The invariant: the word that is left from i on ends where the whole ends.
+-- `desk_commands::words::end_of` meets its contract: what stands before the first 0 is the first word.
 -- Assumes nothing.
-use mathlib.Core.Path.{refl}
+use mathlib.Core.Path.{sym, ap, ◌∙◌}
+use mathlib.Core.Bool.{not}
+use Prim.Native.Nat.{ℕ, ◌-◌}
 use native.Mathlib.Omega.{arith}
-use Rattle.desk_commands.proofs.Laws.Words.{first_past, first_stop, first_more}
-use borrow.Author.Rules.{rules}
+use lib.Dec.{eqb}
+use lib.ListN.{length, drop, length-drop}
+use lib.Seq.{take_all}
+use Rattle.std.specs.List.{prefix_len}
+use Rattle.desk_commands.proofs.Laws.Words.{first_is}
 use Rattle.desk_commands.proofs.words.end_of.Goals as goal
-
-pub loop-i-init : goal.loop-i-init
-loop-i-init c = (search rules, search rules, refl)
-
-pub returns-then-words-i-eq0 : goal.returns-then-words-i-eq0
-returns-then-words-i-eq0 c =
-    let l = c.loop-i in
-    let e = first_stop c.args.words.now l.i c.loop-i-test.true c.if-words-i-eq0.true in
-    (search rules, search rules, omega (arith, e, l.invariant.2))
-
-pub loop-i-preserved : goal.loop-i-preserved
-loop-i-preserved c =
-    let l = c.loop-i in
-    let e = first_more c.args.words.now l.i c.loop-i-test.true c.if-words-i-eq0.false in
-    (search rules, search rules, omega (arith, e, l.invariant.2))
 
 pub returns : goal.returns
 returns c =
-    let l = c.loop-i in
-    let e = first_past c.args.words.now l.i c.loop-i-test.false in
-    (search rules, search rules, omega (arith, e, l.invariant.2))
+    let s = c.args.words.now in
+    let rest = drop c.args.start s in
+    let n = c.before_end.ensures in
+    let whole = take_all (length s - c.args.start) rest (omega (arith, length-drop c.args.start s)) in
+    let e = ap (prefix_len (λ (b : ℕ). not (eqb b 0))) whole ∙ sym (first_is rest) in
+    (omega arith, omega (arith, n.within, ap length whole, length-drop c.args.start s), omega (arith, n.counted, e))

@@ -1,16 +1,11 @@
 -- `desk_io::pieces::shift` meets its contract. The invariant: each byte before i is the one of its place, and each byte from i on is as it was.
 -- Assumes nothing.
 use mathlib.Core.Path.{◌≡◌}
-use Prim.Native.Nat.{ℕ, ◌+◌, ◌-◌, ◌≤◌, ◌<◌}
-use lib.ListN.{length, get_or}
+use Prim.Native.Nat.{ℕ, ◌+◌, ◌≤◌, ◌<◌}
+use lib.ListN.{get_or}
 use Rattle.desk_io.proofs.pieces.shift.Given as goal
 
 abbrev pub invariant-loop-i : goal.invariant-loop-i
 invariant-loop-i l =
-    (l.i ≤ l.end - l.at)
-    × ((length l.room ≡ length l.initial.room)
-    × (((k : ℕ) → k < l.i → get_or l.room k 0 ≡ get_or l.initial.room (l.at + k) 0)
-    × ((k : ℕ) → l.i ≤ k → get_or l.room k 0 ≡ get_or l.initial.room k 0)))
-
-abbrev pub decreases-loop-i : goal.decreases-loop-i
-decreases-loop-i l = l.end - l.at - l.i
+    ((k : ℕ) → k < l.i → get_or l.room k 0 ≡ get_or l.initial.room (l.at + k) 0)
+    × ((k : ℕ) → l.i ≤ k → get_or l.room k 0 ≡ get_or l.initial.room k 0)

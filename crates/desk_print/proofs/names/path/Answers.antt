@@ -1,17 +1,23 @@
--- `desk_print::names::path` meets its contract. The invariant: the texts of the bytes so far are put.
+-- `desk_print::names::path` meets its contract. The invariant: the texts of the bytes so far are put, and the byte before is known.
 -- Assumes nothing.
+use mathlib.Core.Path.{refl, ap}
+use Prim.Native.Nat.{ℕ}
+use native.Mathlib.Omega.{arith}
+use lib.ListN.{get_or}
+use native.Mathlib.Numerals.{add-one}
 use Rattle.desk_print.specs.Text.{path_char}
+use Rattle.desk_print.proofs.Laws.{put_as}
 use Rattle.desk_print.proofs.Texts.{each_begin, each_turn, each_end}
-use borrow.Author.Rules.{rules}
 use Rattle.desk_print.proofs.names.path.Goals as goal
 
-pub loop-i-init : goal.loop-i-init
-loop-i-init c = (search rules, each_begin path_char c.args.s.now c.args.out.now)
+pub loop-b-init : goal.loop-b-init
+loop-b-init c = (refl, each_begin path_char c.args.s.now c.args.out.now)
 
-pub loop-i-preserved : goal.loop-i-preserved
-loop-i-preserved c =
-    let l = c.loop-i in
-    (search rules, each_turn path_char c.args.s.now l.i c.loop-i-test.true l.invariant.1 c.put_path_char.ensures)
+pub loop-b-preserved : goal.loop-b-preserved
+loop-b-preserved c =
+    let l = c.loop-b in
+    let s = c.args.s.now in
+    (rw add-one, each_turn path_char s l.b-index (omega arith) l.invariant.1 (put_as (ap (λ (p : ℕ). path_char p (get_or s l.b-index 0)) l.invariant.0) c.put_path_char.ensures))
 
 pub returns : goal.returns
-returns c = each_end path_char c.args.s.now c.loop-i.i c.loop-i-test.false c.loop-i.invariant.1
+returns c = each_end path_char c.args.s.now c.loop-b.b-index (omega arith) c.loop-b.invariant.1

@@ -1,13 +1,11 @@
--- `desk_print::names::path` meets its contract. The invariant: the texts of the bytes so far are put.
+-- `desk_print::names::path` meets its contract. The invariant: the texts of the bytes so far are put, and the byte before is known.
 -- Assumes nothing.
-use Prim.Native.Nat.{◌≤◌, ◌-◌}
-use lib.ListN.{length, take}
+use mathlib.Core.Path.{◌≡◌}
+use mathlib.Core.List.{◌∷◌}
+use lib.ListN.{take, get_or}
 use Rattle.desk_print.specs.Output.{Put}
 use Rattle.desk_print.specs.Text.{each, path_char}
 use Rattle.desk_print.proofs.names.path.Given as goal
 
-abbrev pub invariant-loop-i : goal.invariant-loop-i
-invariant-loop-i l = (l.i ≤ length l.s) × Put l.initial.out (each path_char 0 (take l.i l.s)) l.out
-
-abbrev pub decreases-loop-i : goal.decreases-loop-i
-decreases-loop-i l = length l.s - l.i
+abbrev pub invariant-loop-b : goal.invariant-loop-b
+invariant-loop-b l = (l.before ≡ get_or (0 ∷ l.s) l.b-index 0) × Put l.initial.out (each path_char 0 (take l.b-index l.s)) l.out

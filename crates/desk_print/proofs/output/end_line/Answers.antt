@@ -1,9 +1,9 @@
--- `desk_print::output::end_line` meets its contract. The count is 0 afterwards.
+-- `desk_print::output::end_line` meets its contract. Nothing is gathered afterwards.
 -- Assumes nothing.
-use mathlib.Core.Path.{sym, ◌∙◌}
+use mathlib.Core.Path.{sym, ap, ◌∙◌}
+use Rattle.desk_print.specs.Output.{Gathering}
 use Rattle.desk_print.proofs.Laws.{flushed}
 use Rattle.desk_print.proofs.output.end_line.Goals as goal
 
 pub returns : goal.returns
-returns c =
-    let k = c.set_count.ensures in flushed k.count (λ s. c.put.ensures.sound (sym k.flag ∙ s))
+returns c = flushed c.clear.ensures (λ s. c.put.ensures.sound (sym (ap (λ (o : Gathering). o.is_failed) c.out.view_is) ∙ s))

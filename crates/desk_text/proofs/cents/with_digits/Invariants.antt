@@ -8,7 +8,4 @@ use Rattle.desk_text.proofs.cents.with_digits.Given as goal
 
 abbrev pub invariant-loop-i : goal.invariant-loop-i
 invariant-loop-i l =
-    (l.i ≤ l.count) × (l.v ≤ most) × (min (value_after l.v (padded (l.count - l.i) (drop l.i l.s))) most ≡ min (value_after l.n (padded l.count l.s)) most)
-
-abbrev pub decreases-loop-i : goal.decreases-loop-i
-decreases-loop-i l = l.count - l.i
+    (l.v ≤ most) × (min (value_after l.v (padded (l.count - l.i) (drop l.i l.s))) most ≡ min (value_after l.n (padded l.count l.s)) most)

@@ -1,14 +1,15 @@
--- `desk_text::keys::key_sum` meets its contract: a part above 128 makes a sum above every key.
+-- `desk_text::keys::key_sum` meets its contract: a sum that is too large for a number is above every key.
 -- Assumes nothing.
+use mathlib.Core.Path.{◌∙◌}
 use native.Mathlib.Omega.{arith}
 use Rattle.desk_text.proofs.Laws.KeyNames.{above_keys}
 use Rattle.desk_text.proofs.keys.key_sum.Goals as goal
 
-pub returns-then-octave-gt128 : goal.returns-then-octave-gt128
-returns-then-octave-gt128 c = above_keys _ (omega (arith, c.if-octave-gt128.true))
+pub returns-in_err-checked_mul : goal.returns-in_err-checked_mul
+returns-in_err-checked_mul c = c.from_residual.ensures ∙ above_keys _ (omega (arith, c.in_err-checked_mul.ensures))
 
-pub returns-then-letter-gt128 : goal.returns-then-letter-gt128
-returns-then-letter-gt128 c = above_keys _ (omega (arith, c.if-letter-gt128.true))
+pub returns-in_err-checked_add : goal.returns-in_err-checked_add
+returns-in_err-checked_add c = c.from_residual-in_err-checked_add.ensures ∙ above_keys _ (omega (arith, c.in_ok-checked_mul.ensures, c.in_err-checked_add.ensures))
 
-pub returns-then-shift-gt128 : goal.returns-then-shift-gt128
-returns-then-shift-gt128 c = above_keys _ (omega (arith, c.if-shift-gt128.true))
+pub returns-in_err-checked_add-2 : goal.returns-in_err-checked_add-2
+returns-in_err-checked_add-2 c = c.from_residual-in_err-checked_add-2.ensures ∙ above_keys _ (omega (arith, c.in_ok-checked_mul.ensures, c.in_ok-checked_add.ensures, c.in_err-checked_add-2.ensures))

@@ -14,7 +14,7 @@ returns-then-is_comment c =
     let l = c.loop-i in
     let s = c.args.line.now in
     let e = said_stop l.may_begin s l.i c.loop-i-test.true (sym c.is_comment.ensures ∙ c.if-is_comment.true) in
-    omega (arith, e, l.invariant)
+    record { value = omega (arith, e, l.invariant); bound = omega arith }
 
 pub loop-i-preserved : goal.loop-i-preserved
 loop-i-preserved c =
@@ -29,4 +29,4 @@ returns c =
     let l = c.loop-i in
     let s = c.args.line.now in
     let e = said_past l.may_begin s l.i c.loop-i-test.false in
-    omega (arith, e, l.invariant)
+    record { value = omega (arith, e, l.invariant); bound = omega arith }

@@ -1,74 +1,54 @@
--- `desk_tunings::keys::put_lines` meets its contract. The invariant: what is left from the place on gives what all lines give; there are no more keys set than lines, and no more lines than bytes.
+-- `desk_tunings::keys::put_lines` meets its contract. The invariant: the lines that are left give what all lines give; there are no more keys set than lines, and no more lines than bytes.
 -- Assumes nothing.
-use borrow.Author.Rules.{rules}
-use mathlib.Core.Path.{refl, sym, ap, ◌∙◌}
+use mathlib.Core.Path.{sym, ap, ◌∙◌}
 use mathlib.Core.List.{List}
-use Prim.Native.Nat.{ℕ, ◌+◌, ◌-◌}
+use Prim.Native.Nat.{ℕ, ◌+◌}
 use native.Mathlib.Omega.{arith}
-use lib.ListN.{take, drop, length-drop}
-use Rattle.desk_text.specs.Spans.{is_line_end}
-use Rattle.desk_text.specs.Lines.{end_length, lines_of}
-use Rattle.desk_text.proofs.Laws.Spans.{span_most}
+use lib.ListN.{length}
+use Rattle.std.proofs.lemmas.Result.{err_from_is_err_and}
+use Rattle.desk_text.specs.Lines.{line_of, lines_of}
 use Rattle.desk_tunings.specs.Lines.{said_line}
-use Rattle.desk_tunings.specs.Keys.{set_by, read_lines}
-use Rattle.desk_tunings.proofs.Laws.Texts.{next_above, lines_turn}
-use Rattle.desk_tunings.proofs.Laws.Entries.{put_most, good_turn, wrong_turn, no_line}
+use Rattle.desk_tunings.specs.Keys.{put_answer, put_entries, read_lines}
+use Rattle.desk_tunings.proofs.Laws.Texts.{behind_less, nonempty, empty}
+use Rattle.desk_tunings.proofs.Laws.Entries.{put_set, good_turn, wrong_turn, no_line}
 use Rattle.desk_tunings.proofs.keys.put_lines.Goals as goal
 
-pub loop-at-init : goal.loop-at-init
-loop-at-init c = (search rules, search rules, refl, refl)
+pub returns-in_err-set : goal.returns-in_err-set
+returns-in_err-set c =
+    let l = c.loop-rest in
+    let t = l.rest.now in
+    let h = nonempty _ (length t) c.is_empty.ensures c.loop-rest-test.true in
+    let s = ap said_line c.split_line.ensures.line in
+    let a = sym c.in_err-set.was ∙ c.put_line.ensures.value ∙ ap (λ (x : _). put_answer x (l.n + 1) l.set l.entries) s in
+    let b = c.put_line.ensures.entries_after ∙ ap (λ (x : _). put_entries x l.entries) s in
+    let p = err_from_is_err_and c.from_residual.result c.from_residual.ensures.1 in
+    rw (p.1, p.2) (wrong_turn t l.n l.set l.entries _ h b _ a ∙ l.invariant.3)
 
-pub slice_bounds-put_line-end : goal.slice_bounds-put_line-end
-slice_bounds-put_line-end c =
-    let l = c.loop-at in
-    let s = c.args.s.now in
-    let m = span_most is_line_end (drop l.at s) in
-    let d = length-drop l.at s in
-    search rules
+pub loop-rest-smaller : goal.loop-rest-smaller
+loop-rest-smaller c =
+    let t = c.loop-rest.rest.now in
+    let h = nonempty _ (length t) c.is_empty.ensures c.loop-rest-test.true in
+    rw c.split_line.ensures.rest (behind_less t h)
 
-pub returns-then-not-is_good : goal.returns-then-not-is_good
-returns-then-not-is_good c =
-    let l = c.loop-at in
-    let a = c.args in
-    let s = c.args.s.now in
-    let p = c.put_line-l in
-    let end = c.line_end-end.result in
-    let next = end + end_length (drop end s) in
-    wrong_turn (take (end - l.at) (drop l.at s)) (lines_of (drop next s)) l.n l.set l.entries p.new.entries p.result p.ensures.value p.ensures.entries_after (sym c.is_good.ensures ∙ c.if-not-is_good.true)
-    ∙ ap (λ (ls : List (List ℕ)). read_lines ls l.n l.set l.entries) (sym (lines_turn s l.at end next c.loop-at-test.true c.line_end-end.ensures refl))
-    ∙ l.invariant.3 ∙ ap (λ (k : ℕ). read_lines (lines_of (drop k s)) 0 0 a.entries.now) c.start-at.ensures
-
-pub loop-at-smaller : goal.loop-at-smaller
-loop-at-smaller c =
-    let l = c.loop-at in
-    let s = c.args.s.now in
-    let h = next_above s l.at c.line_end-end.result c.next_line-at.result c.loop-at-test.true c.line_end-end.ensures c.next_line-at.ensures in
-    omega (arith, h, c.loop-at-test.true)
-
-pub loop-at-preserved : goal.loop-at-preserved
-loop-at-preserved c =
-    let l = c.loop-at in
-    let s = c.args.s.now in
-    let p = c.put_line-l in
-    let end = c.line_end-end.result in
-    let next = c.next_line-at.result in
-    let line = take (end - l.at) (drop l.at s) in
-    let t = c.loop-at-test.true in
-    let h = next_above s l.at end next t c.line_end-end.ensures c.next_line-at.ensures in
-    let m = put_most (said_line line) (l.n + 1) l.set l.entries in
-    let k = c.keys_set-set.ensures ∙ ap set_by p.ensures.value in (
-      omega (arith, h, l.invariant.0),
-      omega (arith, m, k, l.invariant.1),
-      search rules,
-      ap (λ (x : ℕ). read_lines (lines_of (drop next s)) (l.n + 1) x p.new.entries) c.keys_set-set.ensures
-          ∙ good_turn line (lines_of (drop next s)) l.n l.set l.entries p.new.entries p.result p.ensures.value p.ensures.entries_after (sym c.is_good.ensures ∙ c.if-not-is_good.false)
-          ∙ ap (λ (ls : List (List ℕ)). read_lines ls l.n l.set l.entries) (sym (lines_turn s l.at end next t c.line_end-end.ensures c.next_line-at.ensures))
-          ∙ l.invariant.3,
+pub loop-rest-preserved : goal.loop-rest-preserved
+loop-rest-preserved c =
+    let l = c.loop-rest in
+    let t = l.rest.now in
+    let h = nonempty _ (length t) c.is_empty.ensures c.loop-rest-test.true in
+    let s = ap said_line c.split_line.ensures.line in
+    let a = sym c.in_ok-set.was ∙ c.put_line.ensures.value ∙ ap (λ (x : _). put_answer x (l.n + 1) l.set l.entries) s in
+    let b = c.put_line.ensures.entries_after ∙ ap (λ (x : _). put_entries x l.entries) s in
+    let k = put_set (said_line (line_of t)) (l.n + 1) l.set c.in_ok-set.set l.entries a in
+    let d = behind_less t h in
+    let e = ap length c.split_line.ensures.rest in (
+      omega (arith, d, e, l.invariant.0),
+      omega (arith, k, l.invariant.1),
+      c.put_line.auto.entries ∙ l.invariant.2,
+      ap (λ (x : List ℕ). read_lines (lines_of x) (l.n + 1) c.in_ok-set.set c.put_line.new.entries) c.split_line.ensures.rest
+          ∙ good_turn t l.n l.set l.entries _ h b c.in_ok-set.set a ∙ l.invariant.3,
     )
 
 pub returns : goal.returns
 returns c =
-    let l = c.loop-at in
-    let a = c.args in
-    let s = c.args.s.now in
-    no_line s l.at l.n l.set l.entries c.loop-at-test.false ∙ l.invariant.3 ∙ ap (λ (k : ℕ). read_lines (lines_of (drop k s)) 0 0 a.entries.now) c.start-at.ensures
+    let l = c.loop-rest in
+    no_line l.rest.now l.n l.set l.entries (empty _ (length l.rest.now) c.is_empty.ensures c.loop-rest-test.false) ∙ l.invariant.3

@@ -1,0 +1,49 @@
+// The pieces of an open file in turn, and the frames of a piece in turn.
+ghost use Rattle.std.specs.Prelude.{◌≤◌, length};
+
+use super::frames::Part;
+use desk_io::pieces;
+use desk_io::pieces::{PIECE, Piece, Source};
+use messages::file_reference::Kind;
+use std::io::ErrorKind;
+
+// Visits the pieces of an open file from its first on, each with its number, until a visit says that no more are wanted; an error where
+// reading fails. Nothing says that a file ends, so the pieces are counted up to a number that no run reaches.
+pub fn each_piece<F: FnMut(u64, Part) -> bool>(
+    source: &mut Source,
+    room: &mut [u8],
+    first: Piece,
+    mut wants_more: F,
+) -> Result<(), ErrorKind>
+    requires fits { first.len ≤ length room.old }
+    requires callable { F.IsAlwaysCallable wants_more }
+{
+    let mut piece = first;
+    for turn in 0..u64::MAX {
+        let part = Part {
+            bytes: &room[..piece.len],
+            offset: piece.base,
+        };
+        if !wants_more(turn, part) || piece.len < PIECE {
+            break;
+        }
+        piece = pieces::next(source, room, piece, pieces::next_start(piece.len))?;
+    }
+    Ok(())
+}
+
+// Visits the frames of a piece that begin before the next piece.
+pub fn each_frame<F: FnMut(Part)>(piece: Part, kind: Kind, index: &mut [u32], mut visit: F)
+    requires { F.IsAlwaysCallable visit }
+{
+    let Ok(n) = walk::walk(piece.bytes, kind, index) else {
+        return;
+    };
+    let next = pieces::next_start(piece.bytes.len());
+    let (pairs, _) = index.as_chunks::<2>();
+    for [from, len] in pairs.iter().take(n) {
+        if (*from as usize) < next {
+            visit(piece.part(*from as usize, *len as usize));
+        }
+    }
+}
