@@ -1,27 +1,38 @@
 // One file: it is read in pieces into a buffer, and each of its cases is replayed.
-ghost use Rattle.std.specs.Prelude.{length};
-ghost use Rattle.replay_vectors.specs.Extents.{Inside};
-
 use desk_io::pieces;
 use desk_io::pieces::{Piece, Source, sum};
-use replay_vectors::cases::{Case, Extents};
-use replay_vectors::parts::Verdict;
+use replay_vectors::cases;
+use replay_vectors::cases::Case;
+use replay_vectors::verdicts::Fault;
 use std::io::Write;
-use util::bytes::{at_most, sub_slice};
+use util::bytes::sub_slice;
 
 // How many failed cases of a file are named.
 const NAMED: u64 = 5;
 
-// How far a file is replayed: the next case has a number and stands at a place of the buffer, which holds len bytes.
-#[derive(Clone, Copy)]
-pub struct Progress {
-    pub len: usize,
-    pub at: usize,
-    pub number: u64,
+// How many cases passed and failed.
+#[derive(Clone, Copy, Debug, PartialEq, Eq, Default)]
+pub struct Tally {
     pub passed: u64,
     pub failed: u64,
-    pub is_cut: bool,
-    pub is_done: bool,
+}
+
+// How far a file is replayed: the next case has a number and stands at a place of the buffer, which holds len bytes.
+#[derive(Clone, Copy)]
+struct Progress {
+    len: usize,
+    at: usize,
+    number: u64,
+    tally: Tally,
+}
+
+// Why no more cases of a file are replayed: it is at its end, or something is wrong.
+#[derive(Clone, Copy)]
+enum Stop {
+    End,
+    Unreadable,
+    Cut,
+    Malformed,
 }
 
 // Prints a text. A write that fails has nowhere to be told.
@@ -38,164 +49,131 @@ pub fn print(rt: HostRuntime, before: &[u8], number: u64, behind: &[u8]) {
     write(rt, behind);
 }
 
-// Prints what is wrong with a case, and ends the file.
-fn stop(rt: HostRuntime, p: Progress, name: &[u8], what: &[u8]) -> Progress {
-    let mut q = p;
-    write(rt, name);
-    print(rt, what, p.number, b"\n");
-    q.failed = sum(p.failed, 1);
-    q.is_done = true;
-    q
-}
-
-// Prints that a file cannot be read, and ends it.
-fn unreadable(rt: HostRuntime, p: Progress, name: &[u8]) -> Progress {
-    let mut q = p;
-    write(rt, name);
-    write(rt, b": cannot be read\n");
-    q.failed = sum(p.failed, 1);
-    q.is_done = true;
-    q
+// Prints why a file stops, where something is wrong, and counts that as failed.
+fn tell(rt: HostRuntime, p: &mut Progress, name: &[u8], why: Stop) {
+    match why {
+        Stop::End => return,
+        Stop::Unreadable => {
+            write(rt, name);
+            write(rt, b": cannot be read\n");
+        }
+        Stop::Cut => {
+            write(rt, name);
+            print(rt, b": cut in case ", p.number, b"\n");
+        }
+        Stop::Malformed => {
+            write(rt, name);
+            print(rt, b": malformed in case ", p.number, b"\n");
+        }
+    }
+    p.tally.failed = sum(p.tally.failed, 1);
 }
 
 // Moves the rest of the buffer to its start, and reads more bytes of the file behind it.
-fn read_more(
-    rt: HostRuntime,
-    p: Progress,
-    source: &mut Source,
-    name: &[u8],
-    room: &mut [u8],
-) -> Progress {
-    let len = at_most(p.len, room.len());
-    let at = at_most(p.at, len);
-    let held = Piece {
-        base: 0,
-        len,
-        failure: None,
-    };
-    let piece = pieces::next(source, room, held, at);
-    if piece.failure.is_some() {
-        return unreadable(rt, p, name);
-    }
-    let mut q = p;
-    q.len = piece.len;
-    q.at = 0;
-    q.is_cut = false;
-    q
+fn read_more(p: &mut Progress, source: &mut Source, room: &mut [u8]) -> Result<(), Stop> {
+    let len = p.len.min(room.len());
+    let at = p.at.min(len);
+    let piece = pieces::next(source, room, Piece { base: 0, len }, at).map_err(
+        |_| Stop::Unreadable,
+    )?;
+    p.len = piece.len;
+    p.at = 0;
+    Ok(())
 }
 
 // Goes on where the buffer ends inside a case. A file that is not at its end fills the buffer, which no case does.
-fn go_on(
-    rt: HostRuntime,
-    p: Progress,
-    source: &mut Source,
-    name: &[u8],
-    room: &mut [u8],
-) -> Progress {
-    let mut q = p;
+fn go_on(p: &mut Progress, source: &mut Source, room: &mut [u8]) -> Result<(), Stop> {
     if 0 < p.at {
-        return read_more(rt, p, source, name, room);
+        read_more(p, source, room)
+    } else if room.len() <= p.len {
+        Err(Stop::Malformed)
+    } else if 0 < p.len {
+        Err(Stop::Cut)
+    } else {
+        Err(Stop::End)
     }
-    if room.len() <= p.len {
-        return stop(rt, p, name, b": malformed in case ");
-    }
-    if 0 < p.len {
-        return stop(rt, p, name, b": cut in case ");
-    }
-    q.is_done = true;
-    q
 }
 
 // Replays a case by its op.
-fn replay_case(s: &[u8], e: Extents) -> Verdict
-    requires { Inside e (length s.now) }
-{
-    let op = e.op;
-    match op {
-        1 | 64 | 66 => replay_write::replay(s, e),
-        2 | 4 => replay_read::replay(s, e),
-        3 | 65 => replay_walk::replay(s, e),
-        5 | 6 | 7 => replay_rates::replay(s, e),
-        _ => Verdict::Malformed,
+fn replay_case(case: Case) -> Result<(), Fault> {
+    match case.op {
+        1 => replay_write::replay_message(case),
+        2 => replay_read::replay_frame(case),
+        3 => replay_walk::replay_stream(case),
+        4 => replay_read::replay_identity(case),
+        5 => replay_rates::replay_cents(case),
+        6 => replay_rates::replay_split(case),
+        7 => replay_rates::replay_join(case),
+        64 => replay_write::replay_stretches(case),
+        65 => replay_walk::replay_short_streams(case),
+        66 => replay_write::replay_records(case),
+        _ => Err(Fault::Malformed),
     }
 }
 
-// Replays the next case among the bytes that are held, where it is whole, and counts it.
-fn replay_next(rt: HostRuntime, s: &[u8], p: Progress, name: &[u8]) -> Progress {
-    let mut q = p;
-    let Case::Whole(e) = replay_vectors::cases::case_at(s, p.at) else {
-        q.is_cut = true;
-        return q;
-    };
-    q.at = e.end;
-    q.number = sum(p.number, 1);
-    match replay_case(s, e) {
-        Verdict::Passed => {
-            q.passed = sum(p.passed, 1);
-            q
-        }
-        Verdict::Failed => {
-            q.failed = sum(p.failed, 1);
-            if p.failed < NAMED {
+// Counts a case by what a replay of it finds, and names one of the first that fail.
+fn count(rt: HostRuntime, p: &mut Progress, found: Result<(), Fault>) -> Result<(), Stop> {
+    match found {
+        Ok(()) => p.tally.passed = sum(p.tally.passed, 1),
+        Err(Fault::Malformed) => return Err(Stop::Malformed),
+        Err(Fault::Failed) => {
+            if p.tally.failed < NAMED {
                 print(rt, b"case ", p.number, b" failed\n");
             }
-            q
+            p.tally.failed = sum(p.tally.failed, 1);
         }
-        Verdict::Malformed => stop(rt, p, name, b": malformed in case "),
     }
+    p.number = sum(p.number, 1);
+    Ok(())
 }
 
-// Replays the next case, or reads more.
+// Replays the next case, or reads more where the buffer ends inside it.
 fn turn(
     rt: HostRuntime,
-    p: Progress,
+    p: &mut Progress,
     source: &mut Source,
-    name: &[u8],
     room: &mut [u8],
-) -> Progress {
-    let q = replay_next(rt, sub_slice(room, 0, p.len), p, name);
-    if q.is_cut {
-        return go_on(rt, q, source, name, room);
+) -> Result<(), Stop> {
+    let held = sub_slice(room, 0, p.len);
+    match cases::read(sub_slice(held, p.at, held.len())) {
+        Some((case, rest)) => {
+            p.at = held.len() - rest.len();
+            count(rt, p, replay_case(case))
+        }
+        None => go_on(p, source, room),
     }
-    q
 }
 
-// Replays an open file. Nothing says that a file ends, so the turns are counted down from a number that no run uses up.
+// Replays an open file until it stops. Nothing says that a file ends, so the turns are counted.
 fn replay_open(
     rt: HostRuntime,
+    p: &mut Progress,
     source: &mut Source,
-    name: &[u8],
     room: &mut [u8],
-    start: Progress,
-) -> Progress {
-    let mut p = read_more(rt, start, source, name, room);
-    let mut turns = u64::MAX;
-    while turns > 0 {
-        if p.is_done {
-            break;
-        }
-        p = turn(rt, p, source, name, room);
-        turns -= 1;
+) -> Result<(), Stop> {
+    read_more(p, source, room)?;
+    for _ in 0..u64::MAX {
+        turn(rt, p, source, room)?;
     }
-    p
+    Ok(())
 }
 
-// Replays the file of a name.
-pub fn replay_name(rt: HostRuntime, name: &[u8], room: &mut [u8]) -> Progress {
-    let start = Progress {
+// Replays the file of a name, and tells how many of its cases passed and failed.
+pub fn replay_name(rt: HostRuntime, name: &[u8], room: &mut [u8]) -> Tally {
+    let mut p = Progress {
         len: 0,
         at: 0,
         number: 1,
-        passed: 0,
-        failed: 0,
-        is_cut: false,
-        is_done: false,
+        tally: Tally::default(),
     };
     let Ok(file) = pieces::open_file(rt, name) else {
-        return unreadable(rt, start, name);
+        tell(rt, &mut p, name, Stop::Unreadable);
+        return p.tally;
     };
     let mut source = Source::File(file);
-    let p = replay_open(rt, &mut source, name, room, start);
+    if let Err(why) = replay_open(rt, &mut p, &mut source, room) {
+        tell(rt, &mut p, name, why);
+    }
     pieces::close(source);
-    p
+    p.tally
 }

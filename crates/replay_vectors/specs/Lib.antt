@@ -1,2 +1,2 @@
 pub mod Little
-pub mod Extents
+pub mod Parts

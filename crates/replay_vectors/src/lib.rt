@@ -1,6 +1,6 @@
-// The format of the test vectors: little-endian numbers, the extents of a case, and its parts.
+// The format of the test vectors: little-endian numbers, the cases of a file, and what a replay of a case finds.
 #![tactic(auto)]
 
 pub mod cases;
-pub mod little;
-pub mod parts;
+pub mod numbers;
+pub mod verdicts;

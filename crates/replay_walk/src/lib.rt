@@ -3,14 +3,12 @@
 
 mod short;
 
-ghost use Rattle.std.specs.Prelude.{length};
-ghost use Rattle.replay_vectors.specs.Extents.{SpanIn, Inside};
-
 use messages::file_reference::Kind;
-use replay_vectors::cases::{Extents, Span};
-use replay_vectors::parts;
-use replay_vectors::parts::Verdict;
-use walk::Walked;
+use replay_vectors::cases::Case;
+use replay_vectors::numbers::{are_left, number_at};
+use replay_vectors::verdicts::{Fault, judged};
+use util::refusal::Refusal;
+use walk::WalkError;
 
 // The most whole pairs that a case lends.
 const MOST: u64 = 70000;
@@ -18,68 +16,55 @@ const MOST: u64 = 70000;
 // The number of a place of an index before a walk, as of any lent place.
 const BEFORE: u32 = 4294967295;
 
-// A number of an index.
-fn wide(x: u32) -> u64 {
-    x as u64
-}
-
-// Whether an index begins with the numbers of a part, and behind them is as it was.
-fn is_left(index: &[u32], s: &[u8], part: Span) -> bool
-    requires { SpanIn part 8 (length s.now) }
-{
-    if index.len() < part.count {
-        return false;
-    }
-    let mut i = 0;
-    while i < index.len() {
-        if wide(index[i]) != parts::number_at(s, part, i) {
-            return false;
-        }
-        i += 1;
-    }
-    true
-}
-
 // Whether the answer is the case's: a refusal's number and its value, or the number of frames.
-fn is_answer(w: Walked, e: Extents) -> bool {
-    match w {
-        Walked::Frames(n) => e.refusal == 0 && n as u64 == e.value,
-        Walked::Refused(r, n) => r.number() == e.refusal && n as u64 == e.value,
+fn is_answer(answer: Result<usize, WalkError>, case: Case) -> bool {
+    match answer {
+        Ok(n) => case.refusal == 0 && n as u64 == case.value,
+        Err(e) => {
+            let value = match e {
+                WalkError::Stream => 0,
+                WalkError::Index(n) => n as u64,
+            };
+            Refusal::from(e).number() == case.refusal && value == case.value
+        }
     }
 }
 
 // Walks a stream for a kind with an index, and holds the answer and the index to the case.
-fn is_walked(s: &[u8], e: Extents, kind: Kind, index: &mut [u32]) -> bool
-    requires { Inside e (length s.now) }
-{
-    let w = walk::walk(parts::text_of(s, e), kind, index);
-    if !is_answer(w, e) {
-        return false;
-    }
-    is_left(index, s, e.out_entries)
+fn is_walked(case: Case, kind: Kind, index: &mut [u32]) -> bool {
+    is_answer(walk::walk(case.text, kind, index), case) && are_left(index, case.out_entries)
 }
 
-// Replays a case of op 3 or 65; an index has a number more than its whole pairs.
-pub fn replay(s: &[u8], e: Extents) -> Verdict
-    requires { Inside e (length s.now) }
-{
-    let numbers = e.numbers;
-    if numbers.count != 2 {
-        return Verdict::Malformed;
+// The kind of sound file that a number names: 0 bank, 1 WAV. Kept in two crates: in the one below them it would put that on messages.
+fn kind_of(n: u64) -> Result<Kind, Fault> {
+    match n {
+        0 => Ok(Kind::Bank),
+        1 => Ok(Kind::WAV),
+        _ => Err(Fault::Malformed),
     }
-    let first = parts::number_at(s, numbers, 0);
-    let second = parts::number_at(s, numbers, 1);
-    if e.op == 65 {
-        return short::replay(first, second, e.refusal, e.value);
+}
+
+// Replays a case of op 3; an index has a number more than its whole pairs.
+pub fn replay_stream(case: Case) -> Result<(), Fault> {
+    if case.numbers.len() != 2 {
+        return Err(Fault::Malformed);
     }
-    if 1 < first {
-        return Verdict::Malformed;
-    }
-    if MOST < second {
-        return Verdict::Malformed;
+    let kind = kind_of(number_at(case.numbers, 0))?;
+    let pairs = number_at(case.numbers, 1);
+    if MOST < pairs {
+        return Err(Fault::Malformed);
     }
     let mut index = [BEFORE; 140001];
-    let n = second as usize * 2 + 1;
-    let kind = if first == 0 { Kind::Bank } else { Kind::WAV };
-    parts::judged(is_walked(s, e, kind, &mut index[0..n]))
+    let n = pairs as usize * 2 + 1;
+    judged(is_walked(case, kind, &mut index[0..n]))
+}
+
+// Replays a case of op 65: the streams of a length, so many, with so many frames in all.
+pub fn replay_short_streams(case: Case) -> Result<(), Fault> {
+    let len = number_at(case.numbers, 0) as usize;
+    let streams = number_at(case.numbers, 1);
+    if case.numbers.len() != 2 || short::MOST < len {
+        return Err(Fault::Malformed);
+    }
+    judged(case.refusal == 0 && short::frames_of_all(len, streams) == Some(case.value))
 }

@@ -5,32 +5,23 @@ mod again;
 mod stretches;
 mod tries;
 
-ghost use Rattle.std.specs.Prelude.{◌≡◌, ◌≤◌, length};
-ghost use Rattle.replay_vectors.specs.Extents.{Inside};
+ghost use Rattle.std.specs.Prelude.{◌≤◌, length};
 
 use messages::file_reference::Kind;
-use messages::system_exclusive::{DeviceID, UniversalNonRealTimeMsg};
-use numbers_to_message::Made;
-use replay_vectors::cases::Extents;
-use replay_vectors::parts::Verdict;
-use replay_vectors::{little, parts};
+use replay_vectors::cases::Case;
+use replay_vectors::numbers;
+use replay_vectors::verdicts::{Fault, judged};
 use tries::Message;
 
+// The most entries of a case.
+const MOST: usize = 65536;
+
 // Whether the out parts of a write are those of its refusal: none, or the frame whose length is the answer value.
-fn is_write(e: Extents) -> bool {
-    let out_numbers = e.out_numbers;
-    let out_entries = e.out_entries;
-    let bytes = e.bytes;
-    if out_numbers.count != 0 {
-        return false;
-    }
-    if out_entries.count != 0 {
-        return false;
-    }
-    if e.value != bytes.count as u64 {
-        return false;
-    }
-    e.refusal == 0 || bytes.count == 0
+fn is_write(case: Case) -> bool {
+    case.out_numbers.is_empty()
+        && case.out_entries.is_empty()
+        && case.value == case.bytes.len() as u64
+        && (case.refusal == 0 || case.bytes.is_empty())
 }
 
 // The kind of sound file that a message is read for: WAV for a select of a WAV map.
@@ -42,88 +33,61 @@ fn kind_of(code: u64, form: u64) -> Kind {
     }
 }
 
-// Whether a message is written as its case says, from its entries and from map records, and what is written is written again alike.
-fn is_passed(
-    s: &[u8],
-    e: Extents,
-    device: DeviceID,
-    m: UniversalNonRealTimeMsg,
-    kind: Kind,
-    entries: &[u64],
-) -> bool
-    requires { Inside e (length s.now) }
+// Whether a message is answered as its case says.
+fn is_answered(case: Case, x: Message, entries: &[u64]) -> bool {
+    tries::is_answered(x, case.text, entries, case.refusal, case.bytes)
+}
+
+// Whether a frame is read for a kind and written again alike, where the case is not refused.
+fn is_written_again(case: Case, kind: Kind) -> bool {
+    case.refusal != 0 || again::answer(case.bytes, kind).is_ok()
+}
+
+// Replays a write with lent space for its entries: from map records, and, with all, from its entries and what was written again.
+fn replay_write(case: Case, entries: &mut [u64], has_all: bool) -> Result<(), Fault>
+    requires { length entries.old ≤ length case.entries.now }
 {
-    let text = parts::text_of(s, e);
-    let frame = parts::bytes_of(s, e);
-    let x = Message {
+    let n = case.numbers.len();
+    if 16 < n {
+        return Err(Fault::Malformed);
+    }
+    let mut v = [0u64; 16];
+    numbers::read(case.numbers, &mut v[..n]);
+    let (device, m) = numbers_to_message::from_numbers(&v[..n]).ok_or(Fault::Malformed)?;
+    numbers::read(case.entries, entries);
+    let mut x = Message {
         device,
         m,
         has_records: true,
     };
-    if !tries::is_answered(x, text, entries, e.refusal, frame) {
-        return false;
+    if !is_answered(case, x, entries) {
+        return Err(Fault::Failed);
     }
-    if e.op == 66 {
-        return true;
-    }
-    let y = Message {
-        device,
-        m,
-        has_records: false,
-    };
-    if !tries::is_answered(y, text, entries, e.refusal, frame) {
-        return false;
-    }
-    e.refusal != 0 || again::answer(frame, kind) == 0
+    x.has_records = false;
+    judged(!has_all || is_answered(case, x, entries) && is_written_again(case, kind_of(v[0], v[3])))
 }
 
-// The numbers of a case, and zeros.
-fn numbers_of(s: &[u8], e: Extents) -> [u64; 16]
-    requires { Inside e (length s.now) × (e.numbers.count ≤ 16) }
-{
-    let numbers = e.numbers;
-    let start = numbers.start;
-    let count = numbers.count;
-    let mut v = [0u64; 16];
-    little::read_numbers(s, start, &mut v[0..count]);
-    v
+// Replays a case of op 1 or 66, with room for its entries.
+fn replay(case: Case, has_all: bool) -> Result<(), Fault> {
+    let count = case.entries.len();
+    if !is_write(case) || MOST < count {
+        return Err(Fault::Malformed);
+    }
+    let mut entries = [0u64; MOST];
+    replay_write(case, &mut entries[..count], has_all)
 }
 
-// Replays a write with lent space for its entries.
-fn replay_write(s: &[u8], e: Extents, entries: &mut [u64]) -> Verdict
-    requires { Inside e (length s.now) × (e.entries.count ≡ length entries.old) }
-{
-    let numbers = e.numbers;
-    let n = numbers.count;
-    let list = e.entries;
-    let start = list.start;
-    if 16 < n {
-        return Verdict::Malformed;
-    }
-    let v = numbers_of(s, e);
-    let Made::Message { device, m } = numbers_to_message::from_numbers(&v[0..n]) else {
-        return Verdict::Malformed;
-    };
-    little::read_numbers(s, start, entries);
-    let kind = kind_of(v[0], v[3]);
-    parts::judged(is_passed(s, e, device, m, kind, entries))
+// Replays a case of op 1.
+pub fn replay_message(case: Case) -> Result<(), Fault> {
+    replay(case, true)
 }
 
-// Replays a case of op 1, 64 or 66.
-pub fn replay(s: &[u8], e: Extents) -> Verdict
-    requires { Inside e (length s.now) }
-{
-    let list = e.entries;
-    let count = list.count;
-    if e.op == 64 {
-        return parts::judged(stretches::is_resent(s, e));
-    }
-    if !is_write(e) {
-        return Verdict::Malformed;
-    }
-    if 65536 < count {
-        return Verdict::Malformed;
-    }
-    let mut entries = [0u64; 65536];
-    replay_write(s, e, &mut entries[0..count])
+// Replays a case of op 66.
+pub fn replay_records(case: Case) -> Result<(), Fault> {
+    replay(case, false)
+}
+
+// Replays a case of op 64.
+pub fn replay_stretches(case: Case) -> Result<(), Fault> {
+    judged(stretches::is_resent(case))
 }

@@ -4,7 +4,6 @@ ghost use Rattle.std.specs.Prelude.{◌+◌, ◌≤◌, length};
 use messages::file_reference::SoundFileMap;
 use messages::system_exclusive::{DeviceID, UniversalNonRealTimeMsg};
 use util::refusal::Refusal;
-use writer::Written;
 
 // The byte of an output before a try. No frame has it.
 const BEFORE: u8 = 0xA5;
@@ -19,40 +18,32 @@ pub struct Message {
 
 // The records of entries, and default records behind them.
 fn records_of(entries: &[u64]) -> [SoundFileMap; 130] {
-    let d = SoundFileMap::default();
-    let mut records = [d; 130];
-    let mut i = 0;
-    while i < 130 {
-        records[i] = write_maps::map_at(entries, i);
-        i += 1;
-    }
-    records
+    std::array::from_fn(|i| write_maps::map_at(entries, i))
 }
 
 // Writes a message at a place of the output.
-fn write(x: Message, text: &[u8], entries: &[u64], out: &mut [u8], place: usize) -> Written {
-    let device = x.device;
-    let m = x.m;
+fn write(
+    x: Message,
+    text: &[u8],
+    entries: &[u64],
+    out: &mut [u8],
+    place: usize,
+) -> Result<usize, Refusal> {
     if x.has_records {
-        if let UniversalNonRealTimeMsg::FileReference(r) = m {
+        if let UniversalNonRealTimeMsg::FileReference(r) = x.m {
             let records = records_of(entries);
-            return write_maps::write_first(device, r, text, records, entries.len(), out, place);
+            return write_maps::write_first(x.device, r, text, records, entries.len(), out, place);
         }
     }
-    writer::write(device, m, text, entries, out, place)
+    writer::write(x.device, x.m, text, entries, out, place)
 }
 
 // Whether the answer is the refusal of a number, or a frame of so many bytes where the number is 0.
-fn is_answer(w: Written, refusal: u8, len: usize) -> bool {
-    match w {
-        Written::Frame(n) => refusal == 0 && n == len,
-        Written::Refused(r) => r.number() == refusal,
+fn is_answer(answer: Result<usize, Refusal>, refusal: u8, len: usize) -> bool {
+    match answer {
+        Ok(n) => refusal == 0 && n == len,
+        Err(r) => r.number() == refusal,
     }
-}
-
-// Whether two outputs hold the same bytes.
-fn is_same(a: &[u8; 4096], b: &[u8; 4096]) -> bool {
-    check::same(a, b)
 }
 
 // Whether a message, written at a place of an output of so many bytes, is refused or is the frame there, and all else is as it was.
@@ -70,19 +61,14 @@ fn is_left(
     let mut out = [BEFORE; 4096];
     let mut want = [BEFORE; 4096];
     util::bytes::copy(&mut want[place..], frame);
-    let w = write(x, text, entries, &mut out[0..size], place);
-    if !is_answer(w, refusal, frame.len()) {
-        return false;
-    }
-    is_same(&out, &want)
+    let answer = write(x, text, entries, &mut out[..size], place);
+    is_answer(answer, refusal, frame.len()) && check::same(&out, &want)
 }
 
 // Whether a message is refused as the case says: with room, and at a place past the end.
 fn is_refused(x: Message, text: &[u8], entries: &[u64], refusal: u8) -> bool {
-    if !is_left(x, text, entries, 4096, 3, refusal, b"") {
-        return false;
-    }
-    is_left(x, text, entries, 8, 9, refusal, b"")
+    is_left(x, text, entries, 4096, 3, refusal, b"")
+        && is_left(x, text, entries, 8, 9, refusal, b"")
 }
 
 // Whether a message is answered as the case says; a frame with just enough room, with bytes around it, with a byte too few, past the end.
@@ -95,14 +81,8 @@ pub fn is_answered(x: Message, text: &[u8], entries: &[u64], refusal: u8, frame:
         return false;
     }
     let space = Refusal::Space.number();
-    if !is_left(x, text, entries, n, 0, 0, frame) {
-        return false;
-    }
-    if !is_left(x, text, entries, n + 5, 3, 0, frame) {
-        return false;
-    }
-    if !is_left(x, text, entries, n + 2, 3, space, b"") {
-        return false;
-    }
-    is_left(x, text, entries, n, n + 1, space, b"")
+    is_left(x, text, entries, n, 0, 0, frame)
+        && is_left(x, text, entries, n + 5, 3, 0, frame)
+        && is_left(x, text, entries, n + 2, 3, space, b"")
+        && is_left(x, text, entries, n, n + 1, space, b"")
 }
