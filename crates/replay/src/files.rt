@@ -94,7 +94,7 @@ fn go_on(p: &mut Progress, source: &mut Source, room: &mut [u8]) -> Result<(), S
     }
 }
 
-// Replays a case by its op.
+// Replays a case by its op. Kept as numbers: the format of the files has them, and they stand here alone.
 fn replay_case(case: Case) -> Result<(), Fault> {
     match case.op {
         1 => replay_write::replay_message(case),
