@@ -11,3 +11,4 @@ pub mod Entries
 pub mod Identity
 pub mod Text
 pub mod Enum
+pub mod Loops

@@ -11,6 +11,7 @@ use lib.Dec.{ltb}
 use lib.ListN.{length, take, drop}
 use lib.Seq.{drop-nil, take-nil, length-take-le}
 use borrow.Author.Tests.{ltb-true, lt-ltb, le-ltb, le-leb, lt-leb}
+use Rattle.std.proofs.lemmas.Bool.{cases_Bool}
 use Rattle.util.specs.Groups.{Seven}
 use Rattle.messages.specs.Types.{Kind}
 use Rattle.messages.specs.Messages.{Answer, refused, given, read_of}
@@ -29,10 +30,6 @@ Enclosed (b ∷ r) = (b ≡ 0xF0) × Ending r
 
 abbrev pub Encloses : (List ℕ → Bool) → Type 0
 Encloses test = (p : List ℕ) → test p ≡ true → Enclosed p
-
-pub bool_cases : (t : Bool) → (t ≡ true) ⊎ (t ≡ false)
-bool_cases true = inl refl
-bool_cases false = inr refl
 
 -- ---- what can be a frame
 
@@ -57,7 +54,7 @@ ending_fits (b ∷ r) e = ⊎_elim
     (λ p. ending_fits r p.1)
     (rw q at e))))
     (λ q. rw q (suc-le-suc zero-le))
-    (bool_cases (ltb b 128))
+    (cases_Bool (ltb b 128))
 
 pub record Found (test : List ℕ → Bool) (o : ℕ) (s : List ℕ) (x : Stretch) : Type 0 where
   pub d : ℕ
@@ -79,7 +76,7 @@ module _ (test : List ℕ → Bool) (encloses : Encloses test) where
       later
       (rw e at m))
       (λ e. later (rw e at m))
-      (bool_cases (test (take (reach r) (b ∷ r))))
+      (cases_Bool (test (take (reach r) (b ∷ r))))
 
   complete : (s : List ℕ) (o d l : ℕ) → d + l ≤ length s → test (take l (drop d s)) ≡ true → Listed (o + d, l) (stretches test o s)
   unfolding stretches
@@ -91,7 +88,7 @@ module _ (test : List ℕ → Bool) (encloses : Encloses test) where
       rw (e', add-zero, q) (inl refl)
   complete (b ∷ r) o (suc d) l h e =
       let m : Listed (o + suc d, l) (stretches test (suc o) r) = rw (add-suc, ← suc-add) (complete r (suc o) d l (omega (arith, rw suc-add at h)) e) in
-      ⊎_elim (λ q. rw q (inr m)) (λ q. rw q m) (bool_cases (test (take (reach r) (b ∷ r))))
+      ⊎_elim (λ q. rw q (inr m)) (λ q. rw q m) (cases_Bool (test (take (reach r) (b ∷ r))))
 
   -- a stretch is listed exactly when it passes the test
   pub listed_frame : (s : List ℕ) (o l : ℕ) → Listed (o, l) (stretches test 0 s) → (o + l ≤ length s) × (test (take l (drop o s)) ≡ true)
@@ -110,7 +107,7 @@ module _ (test : List ℕ → Bool) (encloses : Encloses test) where
   above (b ∷ r) o p h = ⊎_elim
       (λ e. rw e (h, above r o (suc p) (omega arith)))
       (λ e. rw e (above r o (suc p) (omega arith)))
-      (bool_cases (test (take (reach r) (b ∷ r))))
+      (cases_Bool (test (take (reach r) (b ∷ r))))
 
   pub rising : (s : List ℕ) (o : ℕ) → Rising (stretches test o s)
   unfolding stretches
@@ -118,7 +115,7 @@ module _ (test : List ℕ → Bool) (encloses : Encloses test) where
   rising (b ∷ r) o = ⊎_elim
       (λ e. rw e (above r o (suc o) (omega arith), rising r (suc o)))
       (λ e. rw e (rising r (suc o)))
-      (bool_cases (test (take (reach r) (b ∷ r))))
+      (cases_Bool (test (take (reach r) (b ∷ r))))
 
   -- ---- two streams that agree from some place on
 
@@ -130,7 +127,7 @@ module _ (test : List ℕ → Bool) (encloses : Encloses test) where
       ⊎_elim
       (λ e. rw (e, le-leb k (k + j) (omega arith)) (rw rest (ap (λ (n : ℕ). (n, reach r) ∷ stretches test (suc j) r) (omega arith))))
       (λ e. rw e rest)
-      (bool_cases (test (take (reach r) (b ∷ r))))
+      (cases_Bool (test (take (reach r) (b ∷ r))))
 
   since_drop : (a : ℕ) (s : List ℕ) (o : ℕ) → since (o + a) (stretches test o s) ≡ stretches test 0 (drop a s)
   unfolding stretches since
@@ -141,7 +138,7 @@ module _ (test : List ℕ → Bool) (encloses : Encloses test) where
       ⊎_elim
       (λ e. rw (e, lt-leb (o + suc a) o (omega arith)) rest)
       (λ e. rw e rest)
-      (bool_cases (test (take (reach r) (b ∷ r))))
+      (cases_Bool (test (take (reach r) (b ∷ r))))
 
   pub agree : (s₁ s₂ : List ℕ) (a₁ a₂ : ℕ) → drop a₁ s₁ ≡ drop a₂ s₂ → since a₁ (stretches test 0 s₁) ≡ since a₂ (stretches test 0 s₂)
   agree s₁ s₂ a₁ a₂ e =

@@ -48,13 +48,6 @@ rows_after_maker l i =
     ∷ (not (seven (take 4 (drop i l))), ByteOverflow)
     ∷ []
 
--- a maker's byte at i: missing 13; over 7F, 14
-abbrev pub byte_rows : List ℕ → ℕ → List Row
-byte_rows l i =
-    (ltb (length l) (i + 1), UnexpectedEnd)
-    ∷ (over_7F (get_or l i 0), ByteOverflow)
-    ∷ []
-
 -- "no maker byte 13; maker byte over 7F, 14; maker byte 00 with fewer than two bytes after it 13; either of those two over 7F, 14"
 abbrev pub maker_rows : List ℕ → List Row
 maker_rows l =

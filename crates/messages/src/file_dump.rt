@@ -53,7 +53,7 @@ pub enum FileDumpMsg {
 }
 
 impl FileDumpMsg {
-    // The head of the message.
+    // The head of the message. Kept as a match for each enum of messages: they differ in every name.
     pub fn head(self) -> Head
         ensures { result ≡ head_file self }
     {

@@ -12,7 +12,7 @@ pub enum GeneralMidi {
 }
 
 impl GeneralMidi {
-    // The head of the message.
+    // The head of the message. Kept as a match, as the head of each message is: From would be no shorter.
     pub fn head(self) -> Head
         ensures { result ≡ head_midi self }
     {

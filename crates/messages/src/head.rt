@@ -44,7 +44,7 @@ pub enum Head {
 }
 
 impl Head {
-    // How many bytes stand for the head in a frame.
+    // How many bytes stand for the head in a frame. Kept as a match: it is a rule of two rows, not a table of numbers.
     pub fn size(self) -> usize
         ensures { result ≡ length (code self) }
     {
@@ -55,7 +55,7 @@ impl Head {
         }
     }
 
-    // Whether a checksum ends the fields of the head.
+    // Whether a checksum ends the fields of the head. Kept as a match: its lines are the rows of the layouts that have one.
     pub fn is_summed(self) -> bool
         ensures { result ≡ summed self }
     {

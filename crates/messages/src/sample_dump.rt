@@ -2,7 +2,7 @@
 ghost use Rattle.std.specs.Prelude.{◌≡◌, ◌%◌};
 ghost use Rattle.messages.specs.declared.sample_dump.SampleDumpMsg.TheVariants.{Packet};
 ghost use Rattle.messages.specs.Fields.{loop_value};
-ghost use Rattle.messages.specs.Structures.{loop_byte, extended_loop_byte};
+ghost use Rattle.messages.specs.Structures.{loop_code, loop_byte, extended_loop_code, extended_loop_byte, Named};
 ghost use Rattle.messages.specs.MessageOf.{head_sample, head_extended};
 ghost use Rattle.messages.specs.Header.{header_of};
 
@@ -112,12 +112,51 @@ impl From<LoopType> for u8 {
     }
 }
 
+impl TryFrom<u8> for LoopType {
+    type Error = ();
+
+    ghost try_from_gives = { λ b r. Named loop_code b r };
+
+    // The loop type of a byte.
+    fn try_from(b: u8) -> Result<LoopType, ()> {
+        match b {
+            0 => Ok(LoopType::Forward),
+            1 => Ok(LoopType::BiDirectional),
+            0x7F => Ok(LoopType::Off),
+            _ => Err(()),
+        }
+    }
+}
+
 impl From<ExtendedLoopType> for u8 {
     ghost from_gives = { λ t b. b ≡ extended_loop_byte t };
 
     // The byte of an extended loop type.
     fn from(t: ExtendedLoopType) -> u8 {
         t as u8
+    }
+}
+
+impl TryFrom<u8> for ExtendedLoopType {
+    type Error = ();
+
+    ghost try_from_gives = { λ b r. Named extended_loop_code b r };
+
+    // The extended loop type of a byte.
+    fn try_from(b: u8) -> Result<ExtendedLoopType, ()> {
+        match b {
+            0 => Ok(ExtendedLoopType::Forward),
+            1 => Ok(ExtendedLoopType::BiDirectional),
+            2 => Ok(ExtendedLoopType::ForwardRelease),
+            3 => Ok(ExtendedLoopType::BiDirectionalRelease),
+            0x40 => Ok(ExtendedLoopType::Backward),
+            0x41 => Ok(ExtendedLoopType::BackwardBiDirectional),
+            0x42 => Ok(ExtendedLoopType::BackwardRelease),
+            0x43 => Ok(ExtendedLoopType::BackwardBiDirectionalRelease),
+            0x7E => Ok(ExtendedLoopType::BackwardOneShot),
+            0x7F => Ok(ExtendedLoopType::OneShot),
+            _ => Err(()),
+        }
     }
 }
 

@@ -1,10 +1,11 @@
 // The messages of the non-real-time part, and the device that they are for.
-ghost use Rattle.std.specs.Prelude.{◌≡◌, ◌++◌, ◌≤◌, get_or};
+ghost use Rattle.std.specs.Prelude.{◌≡◌, [], ◌∷◌, ◌++◌, ◌+◌, ◌≤◌, ltb, length, get_or};
 ghost use Rattle.util.specs.Groups.{groups, held};
 ghost use Rattle.messages.specs.Fields.{device_byte, device_of};
 ghost use Rattle.messages.specs.Structures.{reply};
 ghost use Rattle.messages.specs.MessageOf.{head_of};
-ghost use Rattle.messages.specs.Identity.{first_of, numbers_from, byte_rows, maker_rows, maker, maker_end, rows_after_maker, identity_of};
+ghost use Rattle.util.specs.declared.refusal.Refusal.TheVariants.{UnexpectedEnd, ByteOverflow};
+ghost use Rattle.messages.specs.Identity.{first_of, numbers_from, over_7F, maker_rows, maker, maker_end, rows_after_maker, identity_of};
 
 use super::file_dump::FileDumpMsg;
 use super::file_reference::FileReferenceMsg;
@@ -20,6 +21,7 @@ use util::groups::{at, u14_at};
 use util::limits::{ALL_CALL, LARGEST_U7, LARGEST_U14};
 use util::refusal::Refusal;
 
+// A device, or all of them. Kept as an enum, midi-msg's: all call is no want of a device.
 #[derive(Clone, Copy, Debug, PartialEq, Eq)]
 pub enum DeviceID {
     Device(u8),
@@ -137,7 +139,7 @@ fn read_after_maker(m: &[u8], id: ManufacturerID, i: usize) -> Result<IdentityRe
 
 // The byte of a maker at i.
 fn maker_byte(m: &[u8], i: usize) -> Result<u8, Refusal>
-    ensures { result ≡ first_of (byte_rows m.now i) (get_or m.now i 0) }
+    ensures { result ≡ first_of ((ltb (length m.now) (i + 1), UnexpectedEnd) ∷ (over_7F (get_or m.now i 0), ByteOverflow) ∷ []) (get_or m.now i 0) }
 {
     let b = *m.get(i).ok_or(Refusal::UnexpectedEnd)?;
     if LARGEST_U7 < b {
