@@ -22,7 +22,7 @@ use Rattle.messages.specs.declared.file_dump.FileDumpMsg.TheVariants as file
 use Rattle.messages.specs.declared.general_midi.GeneralMidi.TheVariants.{GM1, Off, GM2}
 use Rattle.messages.specs.declared.file_reference.FileReferenceMsg.TheVariants as reference
 use Rattle.messages.specs.declared.system_exclusive.UniversalNonRealTimeMsg.TheVariants as msg
-use Rattle.write_fronts.specs.Fronts.{front_sample, front_extended, front_maker, front_file, front_request, front_keys, front_midi, front_reference, front_of}
+use Rattle.write_fronts.specs.Fronts.{front_sample, front_extended, front_maker, front_file, front_banked, front_midi, front_reference, front_of}
 use Rattle.write_fronts.specs.Sizes.{size_sample, size_extended, size_maker, size_file, size_bank, size_reference, front_size}
 
 -- after the last field
@@ -71,13 +71,9 @@ file_length d (file.Header s t l) = refl
 file_length d (file.Packet c) = refl
 file_length d (file.Request r t) = refl
 
-request_length : (d p : ℕ) (b : Option ℕ) → length (front_request d b p) ≡ size_bank b
-request_length d p None = refl
-request_length d p (Some b) = refl
-
-keys_length : (d p : ℕ) (b : Option ℕ) → length (front_keys d b p) ≡ size_bank b
-keys_length d p None = refl
-keys_length d p (Some b) = refl
+banked_length : (d without with p : ℕ) (b : Option ℕ) → length (front_banked d without with b p) ≡ size_bank b
+banked_length d without with p None = refl
+banked_length d without with p (Some b) = refl
 
 midi_length : (d : ℕ) (g : GeneralMidi) → length (front_midi d g) ≡ 4
 midi_length d GM1 = refl
@@ -98,8 +94,8 @@ front_length d (msg.IdentityReply r) x y =
     maker_length d r.family r.family_member r.software_revision.0 r.software_revision.1
     r.software_revision.2 r.software_revision.3 r.id
 front_length d (msg.FileDump m) x y = file_length d m
-front_length d (msg.TuningBulkDumpRequest b p) x y = request_length d p b
-front_length d (msg.KeyBasedTuningDump k) x y = keys_length d k.tuning_program_num k.tuning_bank_num
+front_length d (msg.TuningBulkDumpRequest b p) x y = banked_length d 0 3 p b
+front_length d (msg.KeyBasedTuningDump k) x y = banked_length d 1 4 k.tuning_program_num k.tuning_bank_num
 front_length d (msg.ScaleTuningDump1Byte s) x y = refl
 front_length d (msg.ScaleTuningDump2Byte s) x y = refl
 front_length d (msg.TuningNoteChange c) x y = refl

@@ -73,13 +73,16 @@ front_file d (file.Header s t l) = start_2 d 0x07 0x01 ((1, device_byte s) ∷ l
 front_file d (file.Packet c) = start_2 d 0x07 0x02 ((1, c) ∷ [])
 front_file d (file.Request r t) = start_2 d 0x07 0x03 ((1, device_byte r) ∷ letters (type_chars t) [])
 
+-- a program; with a bank another head, and the bank before it
+abbrev pub front_banked : ℕ → ℕ → ℕ → Option ℕ → ℕ → List ℕ
+front_banked d without with None p = start_2 d 0x08 without ((1, p) ∷ [])
+front_banked d without with (Some b) p = start_2 d 0x08 with ((1, b) ∷ (1, p) ∷ [])
+
 abbrev pub front_request : ℕ → Option ℕ → ℕ → List ℕ
-front_request d None p = start_2 d 0x08 0x00 ((1, p) ∷ [])
-front_request d (Some b) p = start_2 d 0x08 0x03 ((1, b) ∷ (1, p) ∷ [])
+front_request d b p = front_banked d 0x00 0x03 b p
 
 abbrev pub front_keys : ℕ → Option ℕ → ℕ → List ℕ
-front_keys d None p = start_2 d 0x08 0x01 ((1, p) ∷ [])
-front_keys d (Some b) p = start_2 d 0x08 0x04 ((1, b) ∷ (1, p) ∷ [])
+front_keys d b p = front_banked d 0x01 0x04 b p
 
 -- the three channel bytes of a set
 abbrev pub channel_fields : ℕ → List (ℕ × ℕ)

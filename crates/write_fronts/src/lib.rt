@@ -19,6 +19,8 @@ pub mod system_exclusive;
 pub mod tuning;
 pub mod values;
 
+// Kept as one match for each enum of messages: they differ in every name and number.
+
 // How many bytes the front of a sample dump message has.
 fn size_sample(m: SampleDumpMsg) -> usize
     ensures { result ≡ size_sample m }
@@ -134,10 +136,12 @@ pub fn put_front(out: &mut [u8], d: u64, m: UniversalNonRealTimeMsg, x: usize, y
         UniversalNonRealTimeMsg::TuningBulkDumpRequest {
             tuning_bank_num,
             tuning_program_num,
-        } => tuning::put_request(out, d, tuning_bank_num, tuning_program_num),
-        UniversalNonRealTimeMsg::KeyBasedTuningDump(k) => tuning::put_keys(
+        } => tuning::put_banked(out, d, 0, 3, tuning_bank_num, tuning_program_num),
+        UniversalNonRealTimeMsg::KeyBasedTuningDump(k) => tuning::put_banked(
             out,
             d,
+            1,
+            4,
             k.tuning_bank_num,
             k.tuning_program_num,
         ),

@@ -2,7 +2,7 @@
 ghost use Rattle.std.specs.Prelude.{◌≡◌, ◌∷◌, [], ◌≤◌, length};
 ghost use Rattle.util.specs.Splice.{overwritten};
 ghost use Rattle.messages.specs.Fields.{bank_number};
-ghost use Rattle.write_fronts.specs.Fronts.{start_2, channel_fields, front_request, front_keys};
+ghost use Rattle.write_fronts.specs.Fronts.{start_2, channel_fields, front_banked};
 ghost use Rattle.write_fronts.specs.Sizes.{size_bank};
 
 use messages::tuning::bank_number;
@@ -49,25 +49,14 @@ pub fn put_scale(out: &mut [u8], d: u64, b: u64, s: u16)
     bytes::copy(out, &row);
 }
 
-// Writes a bulk request.
-pub fn put_request(out: &mut [u8], d: u64, bank: Option<u8>, p: u8)
+// Writes a bulk request or the front of a key dump, by the second byte of the head without a bank and that with one.
+pub fn put_banked(out: &mut [u8], d: u64, without: u8, with: u64, bank: Option<u8>, p: u8)
     requires { size_bank bank ≤ length out.old }
-    ensures { out.new ≡ overwritten (front_request d bank p) out.old }
+    ensures { out.new ≡ overwritten (front_banked d without with bank p) out.old }
 {
     match bank {
-        None => put_program(out, d, 0, p),
-        Some(n) => put_bank_program(out, d, 3, n, p),
-    }
-}
-
-// Writes the front of a key dump.
-pub fn put_keys(out: &mut [u8], d: u64, bank: Option<u8>, p: u8)
-    requires { size_bank bank ≤ length out.old }
-    ensures { out.new ≡ overwritten (front_keys d bank p) out.old }
-{
-    match bank {
-        None => put_program(out, d, 1, p),
-        Some(n) => put_bank_program(out, d, 4, n, p),
+        None => put_program(out, d, without, p),
+        Some(n) => put_bank_program(out, d, with, n, p),
     }
 }
 

@@ -8,6 +8,8 @@ use messages::sample_dump::{ExtendedSampleDumpMsg, SampleDumpMsg};
 use messages::system_exclusive::UniversalNonRealTimeMsg;
 use util::limits::{MOST_COUNTED, MOST_URL};
 
+// Kept as one match for each enum of messages: they differ in every name and number.
+
 // How many bytes follow the front of a sample dump message.
 fn size_sample(m: SampleDumpMsg) -> usize
     ensures { result ≡ size_sample m }

@@ -21,6 +21,7 @@ fn entry_of(added: SoundFileMap) -> u64
 }
 
 // Writes the frame of a file reference whose bank maps are the first n entries at a place of the output.
+// Kept as an array and a number: the entries that are made of records need memory of a fixed size.
 fn write_entries(
     device: DeviceID,
     m: FileReferenceMsg,
@@ -65,6 +66,7 @@ pub fn write_maps(
 }
 
 // Writes beside the first n of 130 records by value.
+// Kept as an array and a number: a caller of it holds records by value.
 pub fn write_first(
     device: DeviceID,
     m: FileReferenceMsg,

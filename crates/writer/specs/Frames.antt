@@ -38,6 +38,12 @@ header_contents t n name = least (high (type_bytes t)) (least (too_large n) (lea
 abbrev pub request_contents : FileType → List ℕ → Option Refusal
 request_contents t name = least (high (type_bytes t)) (least (longer most_name name) (high name))
 
+-- a message with the text and the entries lent beside it
+pub record Lent : Type 0 where
+  pub m : UniversalNonRealTimeMsg
+  pub text : List ℕ
+  pub entries : List ℕ
+
 -- the sizes of the frame of a message whose contents are admitted
 pub record SizesOf (s : Sizes) (m : UniversalNonRealTimeMsg) (text entries : List ℕ) : Type 0 where
   pub front_is : s.front ≡ front_size m

@@ -15,9 +15,10 @@ ghost use Rattle.write_fronts.specs.Fronts.{front_of};
 ghost use Rattle.write_fronts.specs.Sizes.{front_size};
 ghost use Rattle.write_lists.specs.Parts.{part_of};
 ghost use Rattle.writer.specs.Write.{has_room, written_at, output_after, length_at};
-ghost use Rattle.writer.specs.Frames.{sum_of, wire, frame_of, SizesOf};
+ghost use Rattle.writer.specs.Frames.{sum_of, wire, frame_of, Lent, SizesOf};
 
 use messages::system_exclusive::{DeviceID, UniversalNonRealTimeMsg};
+use std::marker::Model;
 use util::refusal::Refusal;
 
 // Whether n bytes fit from a place on of an output of so many bytes.
@@ -58,17 +59,6 @@ struct Sizes {
 }
 
 impl Sizes {
-    // The sizes of the frame of a message whose contents are admitted.
-    fn of(m: UniversalNonRealTimeMsg, text: &[u8], entries: &[u64]) -> Sizes
-        requires { contents (head_of m) (fields_of m text.now entries.now) ≡ none }
-        ensures { SizesOf result m text.now entries.now }
-    {
-        let part = write_lists::size::part_size(m, text.len(), entries.len());
-        let sum = m.head().is_summed();
-        let front = write_fronts::front_size(m);
-        Sizes { front, part, sum }
-    }
-
     // The length of a frame of these sizes.
     fn total(self) -> usize
         requires { (self.front ≤ 32) × (self.part ≤ 2048) }
@@ -102,61 +92,67 @@ fn put_frame(
     out[z] = 0xF7;
 }
 
-// The length of the frame of a message whose contents are admitted.
-fn admitted_length(
-    device: DeviceID,
+// A message with the text and the entries lent beside it, whose contents are admitted.
+#[derive(Drop)]
+struct Admitted<'a> {
     m: UniversalNonRealTimeMsg,
-    text: &[u8],
-    entries: &[u64],
-) -> usize
-    requires { contents (head_of m) (fields_of m text.now entries.now) ≡ none }
-    ensures { result ≡ length (frame_of device m text.now entries.now) }
-{
-    Sizes::of(m, text, entries).total()
+    text: &'a [u8],
+    entries: &'a [u64],
 }
 
-// Writes the frame of a message whose contents are admitted, where there is room.
-fn put_admitted(
-    out: &mut [u8],
-    device: DeviceID,
-    m: UniversalNonRealTimeMsg,
-    text: &[u8],
-    entries: &[u64],
-    s: Sizes,
-)
-    requires { (contents (head_of m) (fields_of m text.now entries.now) ≡ none)
-        × SizesOf s m text.now entries.now
-        × (length (frame_of device m text.now entries.now) ≤ length out.old) }
-    ensures { out.new ≡ overwritten (frame_of device m text.now entries.now) out.old }
-{
-    let d = u8::from(device) as u64;
-    put_frame(out, d, m, text, entries, s);
+impl<'a> Model for Admitted<'a> {
+    ghost Value = { Lent };
+
+    ghost view = { λ a. record { m = a.m; text = a.text.now; entries = a.entries.now } };
+
+    ghost invariant = { λ a. contents (head_of a.m) (fields_of a.m a.text.now a.entries.now) ≡ none };
 }
 
-// Writes the frame of a message whose contents are admitted at a place of the output, or refuses it for want of space.
-fn write_admitted(
-    device: DeviceID,
-    m: UniversalNonRealTimeMsg,
-    text: &[u8],
-    entries: &[u64],
-    out: &mut [u8],
-    place: usize,
-) -> Result<usize, Refusal>
-    requires { contents (head_of m) (fields_of m text.now entries.now) ≡ none }
-    ensures { (result ≡ written_at (given (frame_of device m text.now entries.now)) (length out.old) place)
-        × (out.new ≡ output_after (given (frame_of device m text.now entries.now)) out.old place) }
-{
-    let s = Sizes::of(m, text, entries);
-    let n = s.total();
-    if !has_room(out.len(), place, n) {
-        return Err(Refusal::Space);
+impl<'a> Admitted<'a> {
+    // The sizes of the frame.
+    fn sizes(&self) -> Sizes
+        ensures { SizesOf result self.now.m self.now.text self.now.entries }
+    {
+        let part = write_lists::size::part_size(self.m, self.text.len(), self.entries.len());
+        let sum = self.m.head().is_summed();
+        let front = write_fronts::front_size(self.m);
+        Sizes { front, part, sum }
     }
-    put_admitted(&mut out[place..], device, m, text, entries, s);
-    Ok(n)
+
+    // The length of the frame.
+    fn len(&self, device: DeviceID) -> usize
+        ensures { result ≡ length (frame_of device self.now.m self.now.text self.now.entries) }
+    {
+        self.sizes().total()
+    }
+
+    // Writes the frame, which has these sizes, where there is room.
+    fn put(&self, out: &mut [u8], device: DeviceID, s: Sizes)
+        requires { SizesOf s self.now.m self.now.text self.now.entries
+            × (length (frame_of device self.now.m self.now.text self.now.entries) ≤ length out.old) }
+        ensures { out.new ≡ overwritten (frame_of device self.now.m self.now.text self.now.entries) out.old }
+    {
+        let d = u8::from(device) as u64;
+        put_frame(out, d, self.m, self.text, self.entries, s);
+    }
+
+    // Writes the frame at a place of the output, or refuses it for want of space.
+    fn write(&self, device: DeviceID, out: &mut [u8], place: usize) -> Result<usize, Refusal>
+        ensures { (result ≡ written_at (given (frame_of device self.now.m self.now.text self.now.entries)) (length out.old) place)
+            × (out.new ≡ output_after (given (frame_of device self.now.m self.now.text self.now.entries)) out.old place) }
+    {
+        let s = self.sizes();
+        let n = s.total();
+        if !has_room(out.len(), place, n) {
+            return Err(Refusal::Space);
+        }
+        self.put(&mut out[place..], device, s);
+        Ok(n)
+    }
 }
 
 // The length of a message's frame, before anything is written, or the refusal of its contents.
-// Kept as a match: it is no longer than `?` and `Ok(..)`, and the answer to a refusal has a line of its own.
+// Kept as a match, as the answer to a refusal has a line of its own.
 pub fn frame_length(
     device: DeviceID,
     m: UniversalNonRealTimeMsg,
@@ -166,7 +162,10 @@ pub fn frame_length(
     ensures { result ≡ length_at (write_of (message_of device m text.now entries.now)) }
 {
     match refusals::refused(m, text, entries) {
-        Ok(()) => Ok(admitted_length(device, m, text, entries)),
+        Ok(()) => {
+            let admitted = Admitted { m, text, entries };
+            Ok(admitted.len(device))
+        }
         Err(r) => Err(r),
     }
 }
@@ -184,7 +183,8 @@ fn write_message(
         × (out.new ≡ output_after (write_of (message_of device m text.now entries.now)) out.old place) }
 {
     refusals::refused(m, text, entries)?;
-    write_admitted(device, m, text, entries, out, place)
+    let admitted = Admitted { m, text, entries };
+    admitted.write(device, out, place)
 }
 
 // Writes a message's frame at a place of the output.

@@ -17,11 +17,11 @@ put_identity_reply-requires c = rw c.in-IdentityReply.is at c.requires
 pub put-requires-in-FileDump : goal.put-requires-in-FileDump
 put-requires-in-FileDump c = rw c.in-FileDump.is at c.requires
 
-pub put_request-requires : goal.put_request-requires
-put_request-requires c = rw c.in-TuningBulkDumpRequest.is at c.requires
+pub put_banked-requires : goal.put_banked-requires
+put_banked-requires c = rw c.in-TuningBulkDumpRequest.is at c.requires
 
-pub put_keys-requires : goal.put_keys-requires
-put_keys-requires c = rw c.in-KeyBasedTuningDump.is at c.requires
+pub put_banked-requires-in-KeyBasedTuningDump : goal.put_banked-requires-in-KeyBasedTuningDump
+put_banked-requires-in-KeyBasedTuningDump c = rw c.in-KeyBasedTuningDump.is at c.requires
 
 pub put_bank_program-requires : goal.put_bank_program-requires
 put_bank_program-requires c = rw c.in-ScaleTuningDump1Byte.is at c.requires
@@ -75,10 +75,10 @@ pub returns-in-FileDump : goal.returns-in-FileDump
 returns-in-FileDump c = rw c.in-FileDump.is c.put-in-FileDump.ensures
 
 pub returns-in-TuningBulkDumpRequest : goal.returns-in-TuningBulkDumpRequest
-returns-in-TuningBulkDumpRequest c = rw c.in-TuningBulkDumpRequest.is c.put_request.ensures
+returns-in-TuningBulkDumpRequest c = rw c.in-TuningBulkDumpRequest.is c.put_banked.ensures
 
 pub returns-in-KeyBasedTuningDump : goal.returns-in-KeyBasedTuningDump
-returns-in-KeyBasedTuningDump c = rw c.in-KeyBasedTuningDump.is c.put_keys.ensures
+returns-in-KeyBasedTuningDump c = rw c.in-KeyBasedTuningDump.is c.put_banked-in-KeyBasedTuningDump.ensures
 
 pub returns-in-ScaleTuningDump1Byte : goal.returns-in-ScaleTuningDump1Byte
 returns-in-ScaleTuningDump1Byte c = rw c.in-ScaleTuningDump1Byte.is c.put_bank_program.ensures

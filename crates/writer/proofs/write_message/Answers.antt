@@ -11,8 +11,11 @@ returns-in_err-refused c =
     rw (write_refused c.args.device c.args.m c.args.text.now c.args.entries.now _ (told_some _ _ (sym c.in_err-refused.ensures)))
     (search rules, refl)
 
+pub invariant_of-admitted : goal.invariant_of-admitted
+invariant_of-admitted c = told_none _ (sym c.in_ok-refused.ensures)
+
 pub returns : goal.returns
 returns c =
     rw (write_frame c.args.device c.args.m c.args.text.now c.args.entries.now (told_none _ (sym c.in_ok-refused.ensures))
     (bytes_all c.args.text.now (λ i. search rules)) (channels_fit c.args.m c.well_formed.1.0))
-    c.write_admitted.ensures
+    c.write.ensures
