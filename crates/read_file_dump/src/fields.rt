@@ -7,7 +7,7 @@ use messages::file_dump::FileType;
 use read_places::fields::Fields;
 
 // The type that four letters spell.
-fn type_of(letters: [u8; 4]) -> FileType
+pub fn type_of(letters: [u8; 4]) -> FileType
     ensures { result ≡ type_of (four letters) }
 {
     match &letters {

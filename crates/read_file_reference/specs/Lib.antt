@@ -1,3 +1,4 @@
 pub mod Texts
 pub mod Maps
 pub mod Picked
+pub mod Files

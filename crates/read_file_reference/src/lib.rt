@@ -4,12 +4,11 @@
 ghost use Rattle.std.specs.Prelude.{◌≡◌, ◌+◌, ◌≤◌, length, drop};
 ghost use Rattle.util.specs.Groups.{Seven};
 ghost use Rattle.messages.specs.declared.head.Head.TheVariants as head;
-ghost use Rattle.messages.specs.format.Core.{got};
-ghost use Rattle.messages.specs.format.Tags.{look};
-ghost use Rattle.messages.specs.Maps.{reference_types, bank_only, wav_only, select_for};
+ghost use Rattle.messages.specs.Maps.{bank_only, wav_only, select_for};
 ghost use Rattle.read_places.specs.Places.{value_at};
 ghost use Rattle.read_places.specs.Found.{Reads};
 ghost use Rattle.read_file_reference.specs.Picked.{Picks};
+ghost use Rattle.read_file_reference.specs.Files.{Names};
 
 use crate::maps::Picked;
 pub use crate::maps::put_maps;
@@ -39,23 +38,23 @@ pub fn close(f: &Fields) -> Option<Found>
     Some(Found::numbers(m))
 }
 
-// 0B 01 open.
-pub fn open(f: &Fields) -> Option<Found>
-    ensures { Reads head.FileReferenceOpen result f.now }
+// The file that 0B 01 and 0B 03 name: its type at 4, and how many bytes its URL from 8 on has.
+fn file_of(f: &Fields) -> Option<(FileReferenceType, usize)>
+    ensures { Seven f.now × Names result f.now }
 {
     if f.len() < 9 {
         return None;
     }
     let file_type = texts::type_at(f, 4)?;
-    open_typed(f, file_type)
+    let url = texts::url_length(f, 8)?;
+    Some((file_type, url))
 }
 
-// The URL of 0B 01 ends the fields, and their length counts it.
-fn open_typed(f: &Fields, file_type: FileReferenceType) -> Option<Found>
-    requires { (9 ≤ length f.now) × (look reference_types (drop 4 f.now) ≡ got file_type (drop 8 f.now)) }
+// 0B 01 open: the URL ends the fields, and their length counts it.
+pub fn open(f: &Fields) -> Option<Found>
     ensures { Reads head.FileReferenceOpen result f.now }
 {
-    let url = texts::url_length(f, 8)?;
+    let (file_type, url) = file_of(f)?;
     if f.len() != 9 + url {
         return None;
     }
@@ -125,23 +124,11 @@ fn select_of(f: &Fields, found: Option<Picked>) -> Option<Found>
     })
 }
 
-// 0B 03 open and select.
+// 0B 03 open and select: the map follows the URL, and the type names its kind.
 pub fn open_select(f: &Fields) -> Option<Found>
     ensures { Reads head.FileReferenceOpenSelect result f.now }
 {
-    if f.len() < 9 {
-        return None;
-    }
-    let file_type = texts::type_at(f, 4)?;
-    open_select_typed(f, file_type)
-}
-
-// The map of 0B 03 follows the first 00 of the URL, and the type names its kind.
-fn open_select_typed(f: &Fields, file_type: FileReferenceType) -> Option<Found>
-    requires { (9 ≤ length f.now) × (look reference_types (drop 4 f.now) ≡ got file_type (drop 8 f.now)) }
-    ensures { Reads head.FileReferenceOpenSelect result f.now }
-{
-    let url = texts::url_length(f, 8)?;
+    let (file_type, url) = file_of(f)?;
     let picked = map_for(f, file_type, 9 + url)?;
     if said(f) != 5 + url + picked.length {
         return None;

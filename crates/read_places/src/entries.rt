@@ -1,6 +1,7 @@
 // Entries of a list, put into lent places.
 ghost use Rattle.std.specs.Prelude.{◌≡◌, ℕ, ◌<◌, ◌≤◌, length, slice_index};
 
+// Kept with n beside the places: lent places may be more than the entries, and those behind them stay, which the contract tells.
 // Puts n entries, which `entry` gives of their places in the list, into the front of lent places.
 pub fn put_each<E: Fn(usize) -> u64>(out: &mut [u64], n: usize, entry: E)
     requires room { n ≤ length out.old }

@@ -1,4 +1,6 @@
 // The head that two bytes begin.
+// Kept as a match for each first byte: of one table searched by `find` the proof did not close; eight heads have no second byte, and a frame would
+// be held to up to 36 rows.
 ghost use Rattle.std.specs.Prelude.{◌≡◌, Some};
 ghost use Rattle.read_places.specs.Heads.{head_at, select_head, head_05, head_06, head_07, head_08, head_09, head_0b};
 

@@ -1,4 +1,5 @@
 // Readers of sample names, extended headers, extended loop points and requests for these.
+// Kept beside the plain ones as pairs, for the reason of sample_dump.
 ghost use Rattle.messages.specs.declared.head.Head.TheVariants as head;
 ghost use Rattle.read_places.specs.Found.{Reads};
 

@@ -10,31 +10,14 @@ use util::limits::ALL_LOOPS;
 pub fn loop_type(b: u8) -> Option<LoopType>
     ensures { Names loop_code b result }
 {
-    match b {
-        0 => Some(LoopType::Forward),
-        1 => Some(LoopType::BiDirectional),
-        0x7F => Some(LoopType::Off),
-        _ => None,
-    }
+    LoopType::try_from(b).ok()
 }
 
 // The extended loop type of byte b.
 pub fn extended_loop_type(b: u8) -> Option<ExtendedLoopType>
     ensures { Names extended_loop_code b result }
 {
-    match b {
-        0 => Some(ExtendedLoopType::Forward),
-        1 => Some(ExtendedLoopType::BiDirectional),
-        2 => Some(ExtendedLoopType::ForwardRelease),
-        3 => Some(ExtendedLoopType::BiDirectionalRelease),
-        0x40 => Some(ExtendedLoopType::Backward),
-        0x41 => Some(ExtendedLoopType::BackwardBiDirectional),
-        0x42 => Some(ExtendedLoopType::BackwardRelease),
-        0x43 => Some(ExtendedLoopType::BackwardBiDirectionalRelease),
-        0x7E => Some(ExtendedLoopType::BackwardOneShot),
-        0x7F => Some(ExtendedLoopType::OneShot),
-        _ => None,
-    }
+    ExtendedLoopType::try_from(b).ok()
 }
 
 // The loop number v; 16,383 is all.

@@ -1,4 +1,6 @@
 // Readers of sample dump headers, packets, requests, loop points and requests for them.
+// Kept beside the extended ones as pairs: each head is a row of the layouts, which its clause names; one function over two rows would take the head,
+// the length, the table of loop types, the reader of addresses and the message.
 ghost use Rattle.std.specs.Prelude.{◌≡◌};
 ghost use Rattle.messages.specs.declared.head.Head.TheVariants as head;
 ghost use Rattle.messages.specs.Layouts.{form};

@@ -27,7 +27,10 @@ fn i14_at(f: &Fields, i: usize) -> i16
     signed::u14_to_i(v)
 }
 
+// Inlined, both: where the length of the fields is known no place is tested again (docs/SPEED.md).
+
 // Twelve signed values of one group each, from i on.
+#[inline(always)]
 pub fn scale_1_at(f: &Fields, i: usize) -> [i8; 12]
     requires { (i ≤ 18) × (i + 12 ≤ length f.now) }
     ensures { result ≡ scale_1_at f.now i }
@@ -40,6 +43,7 @@ pub fn scale_1_at(f: &Fields, i: usize) -> [i8; 12]
 }
 
 // Twelve signed values of two groups each, from i on.
+#[inline(always)]
 pub fn scale_2_at(f: &Fields, i: usize) -> [i16; 12]
     requires { (i ≤ 18) × (i + 24 ≤ length f.now) }
     ensures { result ≡ scale_2_at f.now i }

@@ -20,6 +20,8 @@ use read_places::fields::Fields;
 use util::groups::at;
 use util::refusal::Refusal;
 
+// Kept as two, a frame and a kind: the public functions take them so, and a struct of both would be taken apart in each.
+
 // The opening of a frame of the right shape, for a kind of sound file.
 fn opening_shaped(frame: &[u8], kind: Kind) -> Result<Opening, Refusal>
     requires { inside frame.now ≡ some (inner frame.now) }
@@ -51,6 +53,7 @@ pub fn opening_in(frame: &[u8], kind: Kind) -> Result<Opening, Refusal>
 }
 
 // What the fields of a frame say where its opening has them.
+// Kept beside `lent::read_fields`: a reading that the one hands to the other is copied, which takes most of the time of a short frame (docs/SPEED.md).
 fn examine_fields(frame: &[u8], o: Opening) -> Result<Reading, Refusal>
     requires { placed (Ok o) (inner frame.now) }
     ensures { Tells result (opens_as (Ok o) (inner frame.now)) frame.now }

@@ -1,22 +1,39 @@
--- `read_file_reference::open` meets its contract, by the length and the type.
+-- `read_file_reference::open` meets its contract: the URL ends the fields.
 -- Assumes nothing.
-use mathlib.Core.Path.{sym}
+use mathlib.Core.Path.{◌≡◌}
 use native.Mathlib.Omega.{arith}
+use lib.ListN.{drop}
 use Rattle.messages.specs.declared.head.Head.TheVariants as head
 use Rattle.read_places.proofs.Laws.Answers.{reads_none}
-use Rattle.read_file_reference.proofs.Laws.Heads.{open_short, open_type}
+use Rattle.read_file_reference.specs.Texts.{first_zero}
+use Rattle.read_file_reference.proofs.Laws.Heads.{open_more, open_said, open_found}
 use Rattle.read_file_reference.proofs.open.Goals as goal
 
-pub returns-then-len-lt9 : goal.returns-then-len-lt9
-returns-then-len-lt9 c =
-    let l = c.len.ensures in
-    reads_none head.FileReferenceOpen _ (open_short c.args.f.now l.seven (omega (arith, l.size, c.if-len-lt9.true)))
+pub returns-then-len-url : goal.returns-then-len-url
+returns-then-len-url c =
+    let f = c.args.f.now in
+    let x = c.in_ok-file_type in
+    let n = x.ensures.1 in
+    let e : x.url ≡ first_zero (drop 8 f) = n.2.0 in
+    reads_none head.FileReferenceOpen _
+    (open_more f x.ensures.0 n.0 x.file_type n.1 (omega (arith, n.2.1)) (omega (arith, n.2.2)) (λ y. c.if-len-url.true (omega (arith, c.len.ensures.size))))
 
-pub returns-in_err-file_type : goal.returns-in_err-file_type
-returns-in_err-file_type c =
-    let l = c.len.ensures in
-    rw c.from_residual.ensures
-    (reads_none head.FileReferenceOpen _ (open_type c.args.f.now l.seven (omega (arith, l.size, c.if-len-lt9.false)) (sym c.in_err-file_type.ensures)))
+pub returns-then-said-url : goal.returns-then-said-url
+returns-then-said-url c =
+    let f = c.args.f.now in
+    let x = c.in_ok-file_type in
+    let n = x.ensures.1 in
+    let e : x.url ≡ first_zero (drop 8 f) = n.2.0 in
+    reads_none head.FileReferenceOpen _
+    (open_said f x.ensures.0 n.0 x.file_type n.1 (omega (arith, n.2.1)) (omega (arith, n.2.2)) (omega (arith, c.len.ensures.size, c.if-len-url.false))
+    (λ y. c.if-said-url.true (omega (arith, c.said.ensures.1))))
 
-pub open_typed-requires : goal.open_typed-requires
-open_typed-requires c = (omega (arith, c.len.ensures.size, c.if-len-lt9.false), sym c.in_ok-file_type.ensures)
+pub returns : goal.returns
+returns c =
+    let f = c.args.f.now in
+    let x = c.in_ok-file_type in
+    let n = x.ensures.1 in
+    let e : x.url ≡ first_zero (drop 8 f) = n.2.0 in
+    rw c.u14_at.ensures
+    (open_found f x.ensures.0 n.0 x.file_type n.1 (omega (arith, n.2.1)) (omega (arith, n.2.2)) (omega (arith, c.len.ensures.size, c.if-len-url.false))
+    (omega (arith, c.said.ensures.1, c.if-said-url.false)) x.url e)

@@ -1,22 +1,41 @@
--- `read_file_reference::open_select` meets its contract, by the length and the type.
+-- `read_file_reference::open_select` meets its contract: the map follows the URL.
 -- Assumes nothing.
-use mathlib.Core.Path.{sym}
+use mathlib.Core.Path.{◌≡◌}
+use Prim.Native.Nat.{◌+◌}
 use native.Mathlib.Omega.{arith}
+use lib.ListN.{drop}
 use Rattle.messages.specs.declared.head.Head.TheVariants as head
 use Rattle.read_places.proofs.Laws.Answers.{reads_none}
-use Rattle.read_file_reference.proofs.Laws.OpenSelects.{both_short, both_type}
+use Rattle.read_file_reference.specs.Texts.{first_zero}
+use Rattle.read_file_reference.proofs.Laws.OpenSelects.{found_nothing, found_unsaid, found_reads}
 use Rattle.read_file_reference.proofs.open_select.Goals as goal
 
-pub returns-then-len-lt9 : goal.returns-then-len-lt9
-returns-then-len-lt9 c =
-    let l = c.len.ensures in
-    reads_none head.FileReferenceOpenSelect _ (both_short c.args.f.now l.seven (omega (arith, l.size, c.if-len-lt9.true)))
+pub returns-in_err-picked : goal.returns-in_err-picked
+returns-in_err-picked c =
+    let f = c.args.f.now in
+    let x = c.in_ok-file_type in
+    let n = x.ensures.1 in
+    let e : x.url ≡ first_zero (drop 8 f) = n.2.0 in
+    rw c.from_residual-in_err-picked.ensures
+    (reads_none head.FileReferenceOpenSelect _
+    (found_nothing f x.ensures.0 n.0 x.file_type n.1 (omega (arith, n.2.1)) (omega (arith, n.2.2)) (9 + x.url) (omega arith) c.in_err-picked.ensures))
 
-pub returns-in_err-file_type : goal.returns-in_err-file_type
-returns-in_err-file_type c =
-    let l = c.len.ensures in
-    rw c.from_residual.ensures
-    (reads_none head.FileReferenceOpenSelect _ (both_type c.args.f.now l.seven (omega (arith, l.size, c.if-len-lt9.false)) (sym c.in_err-file_type.ensures)))
+pub returns-then-said-url : goal.returns-then-said-url
+returns-then-said-url c =
+    let f = c.args.f.now in
+    let x = c.in_ok-file_type in
+    let n = x.ensures.1 in
+    let e : x.url ≡ first_zero (drop 8 f) = n.2.0 in
+    reads_none head.FileReferenceOpenSelect _
+    (found_unsaid f x.ensures.0 n.0 x.file_type n.1 (omega (arith, n.2.1)) (omega (arith, n.2.2)) (9 + x.url) (omega arith) c.in_ok-picked.ensures
+    (λ y. c.if-said-url.true (omega (arith, c.said.ensures.1))))
 
-pub open_select_typed-requires : goal.open_select_typed-requires
-open_select_typed-requires c = (omega (arith, c.len.ensures.size, c.if-len-lt9.false), sym c.in_ok-file_type.ensures)
+pub returns : goal.returns
+returns c =
+    let f = c.args.f.now in
+    let x = c.in_ok-file_type in
+    let n = x.ensures.1 in
+    let e : x.url ≡ first_zero (drop 8 f) = n.2.0 in
+    rw c.u14_at.ensures
+    (found_reads f x.ensures.0 n.0 x.file_type n.1 (omega (arith, n.2.1)) (omega (arith, n.2.2)) (9 + x.url) (omega arith) c.in_ok-picked.ensures
+    (omega (arith, c.said.ensures.1, c.if-said-url.false)) x.url e)

@@ -25,7 +25,8 @@ use Rattle.read_places.proofs.Laws.Numbers.{unsigned_at, range_at, seven_get}
 use Rattle.read_places.proofs.Laws.Lists.{bytes_at, bytes_length}
 use Rattle.read_places.proofs.Laws.Answers.{none_left}
 use Rattle.read_sample_dump.specs.Loops.{loop_number_of}
-use Rattle.read_sample_dump.proofs.Laws.Loops.{extended_loop_type_at, extended_one_byte, loop_number_at}
+use Rattle.messages.proofs.Loops.{extended_one_byte}
+use Rattle.read_sample_dump.proofs.Laws.Loops.{extended_loop_type_at, loop_number_at}
 
 module _ (f : List ℕ) (s : Seven f) where
   -- ---- names

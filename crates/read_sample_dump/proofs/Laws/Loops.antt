@@ -1,15 +1,13 @@
--- The codes of loop types, and loop types and loop numbers by place.
+-- Loop types and loop numbers by place.
 -- Assumes nothing.
-use mathlib.Core.Path.{◌≡◌, refl}
+use mathlib.Core.Path.{◌≡◌}
 use mathlib.Core.List.{List, [], ◌∷◌}
 use Prim.Native.Nat.{ℕ, ◌+◌, ◌<◌, ◌≤◌}
 use lib.ListN.{length, drop, get_or}
 use Rattle.util.specs.Limits.{all_loops}
 use Rattle.util.specs.Groups.{Seven}
 use Rattle.messages.specs.declared.sample_dump.LoopType.{LoopType}
-use Rattle.messages.specs.declared.sample_dump.LoopType.TheVariants.{Forward, BiDirectional, Off}
 use Rattle.messages.specs.declared.sample_dump.ExtendedLoopType.{ExtendedLoopType}
-use Rattle.messages.specs.declared.sample_dump.ExtendedLoopType.TheVariants as ext
 use Rattle.messages.specs.declared.sample_dump.LoopNumber.{LoopNumber}
 use Rattle.messages.specs.format.Core.{got}
 use Rattle.messages.specs.Fields.{loop_value, loop_number}
@@ -25,24 +23,6 @@ loop_type_at t f i n e = byte_at loop_type t f i tt n e
 pub extended_loop_type_at : (t : ExtendedLoopType) (f : List ℕ) (i : ℕ) → i < length f → extended_loop_code t ≡ get_or f i 0 ∷ []
     → extended_loop_type.read (drop i f) ≡ got t (drop (i + 1) f)
 extended_loop_type_at t f i n e = byte_at extended_loop_type t f i tt n e
-
--- a code is one byte
-pub one_byte : (t : LoopType) → loop_code t ≡ get_or (loop_code t) 0 0 ∷ []
-one_byte Forward = refl
-one_byte BiDirectional = refl
-one_byte Off = refl
-
-pub extended_one_byte : (t : ExtendedLoopType) → extended_loop_code t ≡ get_or (extended_loop_code t) 0 0 ∷ []
-extended_one_byte ext.Forward = refl
-extended_one_byte ext.BiDirectional = refl
-extended_one_byte ext.ForwardRelease = refl
-extended_one_byte ext.BiDirectionalRelease = refl
-extended_one_byte ext.Backward = refl
-extended_one_byte ext.BackwardBiDirectional = refl
-extended_one_byte ext.BackwardRelease = refl
-extended_one_byte ext.BackwardBiDirectionalRelease = refl
-extended_one_byte ext.BackwardOneShot = refl
-extended_one_byte ext.OneShot = refl
 
 -- a loop number, where `all` is 16,383
 pub loop_number_at : (all : LoopNumber) (e : loop_value all ≡ all_loops) (f : List ℕ) → Seven f → (i : ℕ) → i + 2 ≤ length f

@@ -29,7 +29,8 @@ use Rattle.read_places.proofs.Laws.Lists.{bytes_at, bytes_length}
 use Rattle.read_places.proofs.Laws.Answers.{none_left, read_if}
 use Rattle.read_sample_dump.specs.Loops.{loop_number_of}
 use Rattle.read_sample_dump.proofs.Laws.Bytes.{first_same}
-use Rattle.read_sample_dump.proofs.Laws.Loops.{loop_type_at, one_byte, loop_number_at}
+use Rattle.messages.proofs.Loops.{one_byte}
+use Rattle.read_sample_dump.proofs.Laws.Loops.{loop_type_at, loop_number_at}
 
 -- a loop type from 2 on is 7F
 others : {b : ℕ} → 2 ≤ b → (b ≡ 127 → ⊥) → (t : LoopType) → loop_code t ≡ b ∷ [] → ⊥
