@@ -13,7 +13,8 @@ use Rattle.util.specs.Splice.{overwritten}
 use Rattle.messages.specs.declared.file_reference.Kind.{Kind}
 use Rattle.messages.specs.Walk.{Stretch, Listed, Rising, since, frames}
 use Rattle.messages.proofs.Exact.{frame_unique}
-use Rattle.messages.proofs.Walk.{bool_cases, listed_exactly, listed_rising, same_from_there}
+use Rattle.std.proofs.lemmas.Bool.{cases_Bool}
+use Rattle.messages.proofs.Walk.{listed_exactly, listed_rising, same_from_there}
 use Rattle.reader.specs.Promises.{Read}
 use Rattle.reader.proofs.Promises.{gives_exactly, same_answer}
 use Rattle.std.specs.Prelude.{Ok, Err}
@@ -95,8 +96,8 @@ module _ (k : Kind) (w : Walked) (s ix ix' : List ℕ) (c : WalkMet w k s ix ix'
       (λ e. ⊎_elim
       (λ d. g (ltb-false most_stream (length s) e) (ltb-true (length ix / 2) (how_many k s) d))
       (λ d. h (ltb-false most_stream (length s) e) (ltb-false (length ix / 2) (how_many k s) d))
-      (bool_cases (ltb (length ix / 2) (how_many k s))))
-      (bool_cases (ltb most_stream (length s)))
+      (cases_Bool (ltb (length ix / 2) (how_many k s))))
+      (cases_Bool (ltb most_stream (length s)))
 
 pub stream_exactly : StreamExactly
 stream_exactly k w s ix ix' c = (
