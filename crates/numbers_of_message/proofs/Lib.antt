@@ -4,3 +4,4 @@ pub mod RowsBack
 pub mod RepresentableOnly
 pub mod Settled
 pub mod Promises
+pub mod Mapped

@@ -35,7 +35,7 @@ use Rattle.messages.specs.Maps.{wav_map, offset, select_for}
 use Rattle.messages.specs.Layouts.{form}
 use Rattle.messages.specs.MessageOf.{head_of, fields_of, message_of, head_sample, fields_sample, head_extended, fields_extended, head_file, fields_file, head_request, fields_request, head_keys, fields_keys, head_select, fields_select, any_select, head_reference, fields_reference}
 use Rattle.messages.proofs.Exact.{settled_parts}
-use Rattle.messages.proofs.Walk.{bool_cases}
+use Rattle.std.proofs.lemmas.Bool.{cases_Bool}
 use Rattle.numbers_to_message.specs.declared.fit.NumberType.TheVariants as type
 use Rattle.numbers_to_message.specs.Types.{DeviceID, LoopNumber, FileType, FileReferenceType, GeneralMidi, SampleDumpMsg, ExtendedSampleDumpMsg, ManufacturerID, FileDumpMsg, WAVMap, SelectMap, FileReferenceMsg, UniversalNonRealTimeMsg}
 use Rattle.numbers_to_message.specs.Values.{file_number_of, numbered}
@@ -142,7 +142,7 @@ module _ (a b c d : ℕ) (low : (a < 128) × ((b < 128) × ((c < 128) × (d < 12
       (λ (s : same_four (type_chars t) letters ≡ true). absurd (n (rw s at e)))
       (λ (s : same_four (type_chars t) letters ≡ false).
       rw (ne_eqb _ _ (λ q. let y = same_number t l q in let z : ◌≡◌ {A = ℕ} 0 1 = cc in omega arith)) (k (rw s at e)))
-      (bool_cases (same_four (type_chars t) letters))
+      (cases_Bool (same_four (type_chars t) letters))
 
   unspelled : spelled_in named_types ≡ spelled_as → numbered_in named_types ≡ none
   unspelled e =

@@ -10,13 +10,12 @@ use lib.IntN.{ℤ, pos, negsuc}
 use borrow.Author.Tests.{lt-ltb, le-ltb, ne_eqb}
 use Rattle.numbers_to_message.specs.declared.fit.NumberType.{NumberType}
 use Rattle.numbers_to_message.specs.declared.fit.NumberType.TheVariants as type
+use Rattle.numbers_to_message.proofs.Loops.{loop_back, extended_loop_back}
 use Rattle.numbers_to_message.specs.Values.{Value, value, signed, signed_number_of, file_number_of}
 use Rattle.messages.specs.declared.system_exclusive.DeviceID.TheVariants.{Device, AllCall}
 use Rattle.std.specs.Prelude.{Some, None}
 use mathlib.Core.List.{List, [], ◌∷◌}
 use Rattle.messages.specs.declared.sample_dump.LoopNumber.TheVariants.{Loop, RequestAll, DeleteAll}
-use Rattle.messages.specs.declared.sample_dump.LoopType.TheVariants as loop
-use Rattle.messages.specs.declared.sample_dump.ExtendedLoopType.TheVariants as ext
 use Rattle.messages.specs.declared.file_dump.FileType.TheVariants.{MIDI, MIEX, ESEQ, TEXT, BIN, MAC, Custom}
 use Rattle.messages.specs.declared.file_reference.FileReferenceType.TheVariants as reference
 use Rattle.numbers_of_message.specs.Numbers.{number}
@@ -64,19 +63,8 @@ value_back type.RequestedLoop DeleteAll h = absurd h
 value_back type.TransmittedLoop (Loop n) h = rw (ne_eqb n 65536 (λ e. omega arith), lt-ltb n (2 ^ 16) h)
 value_back type.TransmittedLoop RequestAll h = absurd h
 value_back type.TransmittedLoop DeleteAll h = refl
-value_back type.LoopType loop.Forward h = refl
-value_back type.LoopType loop.BiDirectional h = refl
-value_back type.LoopType loop.Off h = refl
-value_back type.ExtendedLoopType ext.Forward h = refl
-value_back type.ExtendedLoopType ext.BiDirectional h = refl
-value_back type.ExtendedLoopType ext.ForwardRelease h = refl
-value_back type.ExtendedLoopType ext.BiDirectionalRelease h = refl
-value_back type.ExtendedLoopType ext.Backward h = refl
-value_back type.ExtendedLoopType ext.BackwardBiDirectional h = refl
-value_back type.ExtendedLoopType ext.BackwardRelease h = refl
-value_back type.ExtendedLoopType ext.BackwardBiDirectionalRelease h = refl
-value_back type.ExtendedLoopType ext.BackwardOneShot h = refl
-value_back type.ExtendedLoopType ext.OneShot h = refl
+value_back type.LoopType t h = loop_back t
+value_back type.ExtendedLoopType t h = extended_loop_back t
 value_back type.FileType MIDI h = refl
 value_back type.FileType MIEX h = refl
 value_back type.FileType ESEQ h = refl

@@ -11,7 +11,6 @@ use messages::file_reference::{FileReferenceMsg, FileReferenceType, SelectMap, W
 fn wav_map(form: u64, offset: u64, drum: u64, m: WAVMap) -> [u64; 10]
     ensures { result ≡ form ∷ offset ∷ drum ∷ field_numbers (wav m) }
 {
-    let fine = signed_16(m.fine);
     [
         form,
         offset,
@@ -21,7 +20,7 @@ fn wav_map(form: u64, offset: u64, drum: u64, m: WAVMap) -> [u64; 10]
         m.base as u64,
         m.lokey as u64,
         m.hikey as u64,
-        fine,
+        signed_16(m.fine),
         m.volume as u64,
     ]
 }

@@ -35,44 +35,20 @@ pub fn put_change(out: &mut [u64], d: u64, bank: Option<u8>, program: u8) -> usi
     put(out, &[0x0807, d, bank_number(bank), program as u64])
 }
 
+// Kept as pairs, of one byte and of two: they differ in the type of a value or of a message, and each is one line.
+
 // The twelve values of one byte.
 fn scale_1(s: [i8; 12]) -> [u64; 12]
     ensures { result ≡ field_numbers (scale_1 s) }
 {
-    [
-        signed_8(s[0]),
-        signed_8(s[1]),
-        signed_8(s[2]),
-        signed_8(s[3]),
-        signed_8(s[4]),
-        signed_8(s[5]),
-        signed_8(s[6]),
-        signed_8(s[7]),
-        signed_8(s[8]),
-        signed_8(s[9]),
-        signed_8(s[10]),
-        signed_8(s[11]),
-    ]
+    s.map(signed_8)
 }
 
 // The twelve values of two bytes.
 fn scale_2(s: [i16; 12]) -> [u64; 12]
     ensures { result ≡ field_numbers (scale_2 s) }
 {
-    [
-        signed_16(s[0]),
-        signed_16(s[1]),
-        signed_16(s[2]),
-        signed_16(s[3]),
-        signed_16(s[4]),
-        signed_16(s[5]),
-        signed_16(s[6]),
-        signed_16(s[7]),
-        signed_16(s[8]),
-        signed_16(s[9]),
-        signed_16(s[10]),
-        signed_16(s[11]),
-    ]
+    s.map(signed_16)
 }
 
 // Puts a scale dump of one byte.
@@ -85,8 +61,7 @@ pub fn put_dump_1(out: &mut [u64], d: u64, s: ScaleTuningDump1Byte) -> usize
         s.tuning_bank_num as u64,
         s.tuning_program_num as u64,
     ];
-    let v = scale_1(s.tuning);
-    put_both(out, &head, &v)
+    put_both(out, &head, &scale_1(s.tuning))
 }
 
 // Puts a scale dump of two bytes.
@@ -99,24 +74,27 @@ pub fn put_dump_2(out: &mut [u64], d: u64, s: ScaleTuningDump2Byte) -> usize
         s.tuning_bank_num as u64,
         s.tuning_program_num as u64,
     ];
-    let v = scale_2(s.tuning);
-    put_both(out, &head, &v)
+    put_both(out, &head, &scale_2(s.tuning))
 }
 
 // Puts a scale of one byte for channels.
 pub fn put_tuning_1(out: &mut [u64], d: u64, s: ScaleTuning1Byte) -> usize
     ensures { Put (numbers d (coded (msg.ScaleTuning1Byte s))) out.old out.new result }
 {
-    let head = [0x0808, d, s.channels.channels as u64];
-    let v = scale_1(s.tuning);
-    put_both(out, &head, &v)
+    put_both(
+        out,
+        &[0x0808, d, s.channels.channels as u64],
+        &scale_1(s.tuning),
+    )
 }
 
 // Puts a scale of two bytes for channels.
 pub fn put_tuning_2(out: &mut [u64], d: u64, s: ScaleTuning2Byte) -> usize
     ensures { Put (numbers d (coded (msg.ScaleTuning2Byte s))) out.old out.new result }
 {
-    let head = [0x0809, d, s.channels.channels as u64];
-    let v = scale_2(s.tuning);
-    put_both(out, &head, &v)
+    put_both(
+        out,
+        &[0x0809, d, s.channels.channels as u64],
+        &scale_2(s.tuning),
+    )
 }

@@ -31,8 +31,7 @@ pub fn loop_index(i: LoopNumber) -> u64
 {
     match i {
         LoopNumber::Loop(n) => n as u64,
-        LoopNumber::RequestAll => 65536,
-        LoopNumber::DeleteAll => 65536,
+        LoopNumber::RequestAll | LoopNumber::DeleteAll => 65536,
     }
 }
 
@@ -48,29 +47,21 @@ pub fn type_number(t: FileType) -> u64
 pub fn reference_number(t: FileReferenceType) -> u64
     ensures { result ≡ reference_number_of t }
 {
-    match t {
-        FileReferenceType::DLS => 0,
-        FileReferenceType::SF2 => 1,
-        FileReferenceType::WAV => 2,
-    }
+    t as u64
 }
+
+// Kept as a pair: they differ in the type of the value, and each is one line.
 
 // A signed number of 8 bits in two's complement of 64.
 pub fn signed_8(x: i8) -> u64
     ensures { result ≡ signed_number_of x }
 {
-    if x < 0 {
-        return u64::MAX - (-1 - x) as u64;
-    }
-    x as u64
+    i64::from(x).cast_unsigned()
 }
 
 // A signed number of 16 bits in two's complement of 64.
 pub fn signed_16(x: i16) -> u64
     ensures { result ≡ signed_number_of x }
 {
-    if x < 0 {
-        return u64::MAX - (-1 - x) as u64;
-    }
-    x as u64
+    i64::from(x).cast_unsigned()
 }

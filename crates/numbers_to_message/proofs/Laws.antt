@@ -1,28 +1,26 @@
 -- Laws of the proofs: numbers by place are read as a row says, and the places of a loop.
 -- Assumes nothing.
-use mathlib.Core.Path.{◌≡◌, refl, sym, ap, ◌∙◌}
+use mathlib.Core.Path.{◌≡◌, refl, sym, ap, ◌∙◌, subst}
 use mathlib.Core.Bool.{Bool, true, false}
 use mathlib.Core.List.{List, [], ◌∷◌}
 use mathlib.Core.Option.{Option, none, some}
-use Prim.Native.Nat.{ℕ, zero, suc, ◌+◌, ◌≤◌, ◌<◌}
+use Prim.Native.Nat.{ℕ, suc, ◌+◌, ◌≤◌, ◌<◌}
 use native.Mathlib.Omega.{arith}
 use native.Mathlib.Numerals.{add-one}
 use lib.Dec.{ltb, leb}
 use lib.ListN.{length, drop, get_or, drop_of_length-le}
 use lib.Seq.{drop-cons}
-use borrow.Author.Tests.{ltb-true, ltb-false, leb-true, leb-false, lt-ltb, le-ltb, le-leb, lt-leb, ne_eqb}
+use borrow.Author.Tests.{ltb-true, ltb-false, leb-true, leb-false, lt-ltb, le-ltb}
 use Rattle.util.specs.Pick.{pick}
-use Rattle.util.specs.Options.{map_option}
 use Rattle.numbers_to_message.specs.Types.{NumberType, DeviceID, UniversalNonRealTimeMsg, Made}
-use Rattle.std.specs.Prelude.{Some, None}
-use Rattle.std.specs.Bool.{then_some}
-use Rattle.std.specs.Option.{option_or}
-use Rattle.std.specs.Prelude as std
-use Rattle.numbers_to_message.specs.declared.fit.NumberType.TheVariants.{U8, Flag, Device, ReferenceType}
+use Rattle.std.specs.Prelude.{None, Result, Ok, Err, MatchResult}
+use Rattle.std.specs.Result.{result_or, result_ok}
+use Rattle.std.specs.Option.{option_map}
+use Rattle.numbers_to_message.specs.declared.fit.NumberType.TheVariants.{U8, Device}
 use Rattle.numbers_to_message.specs.Values.{value, or_else}
 use Rattle.numbers_to_message.specs.Rows.{Fun, Row}
 use Rattle.numbers_to_message.specs.Table.{given, read, read_first, or_other, rows_of}
-use Rattle.numbers_to_message.specs.Fits.{is_some, fit, taken, misfit, fits, made, message_if, row_message, row_fits, fits_any, first_message}
+use Rattle.numbers_to_message.specs.Fits.{is_some, fit, taken, misfit, fits, made, message_if, row_message, row_fits, fits_any, first_message, answer}
 
 given_is : {A : Type 0} (o : Option A) (b : A) (k : A → Made) → given o k ≡ pick (is_some o) (k (or_else o b)) None
 given_is none b k = refl
@@ -85,27 +83,39 @@ pick_no {T} {b} {r} {y} {z} x p q e = e ∙ ap (λ (w : Bool). pick w x y) (sym 
 
 -- ---- the message of rows
 
--- the message of two rows, and that of four
-pub two_said : {A : Type 0} (a b : Bool) (m n : A) → option_or (then_some a m) (then_some b n) ≡ then_some (pick a true b) (pick a m n)
-two_said true b m n = refl
-two_said false b m n = refl
+-- the answer of two rows, and that of four
+pub two_answers : {A : Type 0} (a b : Bool) (m n : A) → result_or (pick a (Ok m) (Err m)) (pick b (Ok n) (Err n)) ≡ pick (pick a true b) (Ok (pick a m n)) (Err (pick a m n))
+two_answers true b m n = refl
+two_answers false b m n = refl
 
-pub four_said : {A : Type 0} (a b c d : Bool) (m n p q : A)
-    → option_or (option_or (option_or (then_some a m) (then_some b n)) (then_some c p)) (then_some d q)
-    ≡ then_some (pick a true (pick b true (pick c true d))) (pick a m (pick b n (pick c p q)))
-four_said true b c d m n p q = refl
-four_said false true c d m n p q = refl
-four_said false false true d m n p q = refl
-four_said false false false d m n p q = refl
+pub four_answers : {A : Type 0} (a b c d : Bool) (m n p q : A)
+    → result_or (result_or (result_or (pick a (Ok m) (Err m)) (pick b (Ok n) (Err n))) (pick c (Ok p) (Err p))) (pick d (Ok q) (Err q))
+    ≡ pick (pick a true (pick b true (pick c true d))) (Ok (pick a m (pick b n (pick c p q)))) (Err (pick a m (pick b n (pick c p q))))
+four_answers true b c d m n p q = refl
+four_answers false true c d m n p q = refl
+four_answers false false true d m n p q = refl
+four_answers false false false d m n p q = refl
 
--- a device and the message that some rows say
-pub said_none : (b : Bool) (d : DeviceID) (m : UniversalNonRealTimeMsg) → then_some b m ≡ None → message_if b d m ≡ None
-said_none false d m e = refl
-said_none true d m e = cc
+-- the message of an answer
+message_at : {A : Type 0} (b : Bool) (m r : A) → MatchResult (pick b (Ok m) (Err m)) (λ x. r ≡ x) (λ x. r ≡ x) → r ≡ m
+message_at true m r h = h
+message_at false m r h = h
 
-pub said_some : (b : Bool) (d : DeviceID) (m n : UniversalNonRealTimeMsg) → then_some b m ≡ Some n → message_if b d m ≡ Some (d, n)
-said_some false d m n e = cc
-said_some true d m n e = cc
+pub message_is : {A : Type 0} (b : Bool) (m r : A) (a : Result A A) → a ≡ pick b (Ok m) (Err m) → MatchResult a (λ x. r ≡ x) (λ x. r ≡ x) → r ≡ m
+message_is b m r a e h = message_at b m r (subst (λ w. MatchResult w (λ x. r ≡ x) (λ x. r ≡ x)) e h)
+
+-- a device and the message of an answer
+answer_is : (b : Bool) (d : DeviceID) (m : UniversalNonRealTimeMsg) → message_if b d m ≡ option_map (λ n. (d, n)) (result_ok (pick b (Ok m) (Err m)))
+answer_is true d m = refl
+answer_is false d m = refl
+
+module _ (v : List ℕ) (k : ℕ) where
+  pub whole_none : value Device (get_or v 1 0) ≡ none → given (value Device (get_or v 1 0)) (λ d. read_first (rows_of k) d (drop 2 v)) ≡ None
+  whole_none e = rw e
+
+  pub whole_some : (d : DeviceID) → value Device (get_or v 1 0) ≡ some d
+      → given (value Device (get_or v 1 0)) (λ d. read_first (rows_of k) d (drop 2 v)) ≡ option_map (λ n. (d, n)) (result_ok (answer (rows_of k) v))
+  whole_some d e = ap (λ o. given o (λ d. read_first (rows_of k) d (drop 2 v))) e ∙ rows_are d v (rows_of k) ∙ answer_is (fits_any (rows_of k) v) d (first_message (rows_of k) v)
 
 -- ---- whether a value is some
 
@@ -115,31 +125,6 @@ fit_as x e p = p ∙ sym (ap (λ (w : NumberType). fit w x) e)
 pub pick_some : {A : Type 0} (b : Bool) (a : A) → b ≡ is_some (pick b (some a) none)
 pick_some true a = refl
 pick_some false a = refl
-
-pub pick_map : {A B : Type 0} (f : A → B) (b : Bool) (a : A) → b ≡ is_some (map_option f (pick b (some a) none))
-pick_map f true a = refl
-pick_map f false a = refl
-
-pub apart_some : {A B : Type 0} (f : A → B) (e b : Bool) (c : B) (a : A) → pick e true b ≡ is_some (pick e (some c) (map_option f (pick b (some a) none)))
-apart_some f true b c a = refl
-apart_some f false b c a = pick_map f b a
-
-pub flag_some : (x : ℕ) → ltb x 2 ≡ fit Flag x
-flag_some zero = refl
-flag_some (suc zero) = refl
-flag_some (suc (suc x)) = rw (le-ltb (suc (suc x)) 2 (omega arith), ne_eqb (suc (suc x)) 0 (λ e. omega arith), ne_eqb (suc (suc x)) 1 (λ e. omega arith))
-
-pub reference_some : (x : ℕ) → ltb x 3 ≡ fit ReferenceType x
-reference_some zero = refl
-reference_some (suc zero) = refl
-reference_some (suc (suc zero)) = refl
-reference_some (suc (suc (suc x))) =
-    let y = suc (suc (suc x)) in
-    rw (le-ltb y 3 (omega arith), ne_eqb y 0 (λ e. omega arith), ne_eqb y 1 (λ e. omega arith), ne_eqb y 2 (λ e. omega arith))
-
-pub upper_some : {A : Type 0} (x n : ℕ) (a : A) (b : Bool) → ltb x n ≡ b → leb n x ≡ is_some (pick b none (some a))
-upper_some x n a true e = lt-leb n x (ltb-true x n e)
-upper_some x n a false e = le-leb n x (ltb-false x n e)
 
 -- ---- the loop over the types of a row
 

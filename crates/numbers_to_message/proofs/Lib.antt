@@ -1,2 +1,4 @@
 pub mod Laws
-pub mod Below
+pub mod Options
+pub mod Made
+pub mod Loops

@@ -1,7 +1,6 @@
 -- Numbers by place: whether they fit a row, and the values of those that fit.
 use Rattle.std.specs.Prelude as std
-use Rattle.std.specs.Prelude.{Some, None, Bool, true, false, List, [], ◌∷◌, ℕ, suc, leb, ltb, pos, length, get_or}
-use Rattle.std.specs.Bool.{then_some}
+use Rattle.std.specs.Prelude.{Some, None, Result, Ok, Err, Bool, true, false, List, [], ◌∷◌, ℕ, suc, leb, ltb, pos, length, get_or}
 use Rattle.std.proofs.Math.Option.{Option, none, some}
 use Rattle.util.specs.Pick.{pick}
 use Rattle.numbers_to_message.specs.Types.{NumberType, DeviceID, UniversalNonRealTimeMsg, Made}
@@ -37,6 +36,11 @@ misfit type.Zero = tt
 misfit type.One = tt
 misfit type.Two = tt
 misfit type.Three = tt
+
+-- an option of the definitions as one of the code
+abbrev pub option_of : {A : Type 0} → Option A → std.Option A
+option_of none = None
+option_of (some a) = Some a
 
 abbrev pub is_some : {A : Type 0} → Option A → Bool
 is_some none = false
@@ -80,10 +84,10 @@ first_message [] v = msg.EOF
 first_message (r ∷ []) v = row_message r v
 first_message (r ∷ s ∷ rs) v = pick (row_fits r v) (row_message r v) (first_message (s ∷ rs) v)
 
--- the message of a row, where the numbers fit it
-abbrev pub row_said : Row → List ℕ → std.Option UniversalNonRealTimeMsg
-row_said r v = then_some (row_fits r v) (row_message r v)
+-- a message: Ok where the numbers fit its types
+abbrev pub fitting : List NumberType → List ℕ → UniversalNonRealTimeMsg → Result UniversalNonRealTimeMsg UniversalNonRealTimeMsg
+fitting ts v m = pick (fits ts v 2) (Ok m) (Err m)
 
--- the message of some rows, where the numbers fit one
-abbrev pub said : List Row → List ℕ → std.Option UniversalNonRealTimeMsg
-said rs v = then_some (fits_any rs v) (first_message rs v)
+-- the message of some rows: Ok where the numbers fit one
+abbrev pub answer : List Row → List ℕ → Result UniversalNonRealTimeMsg UniversalNonRealTimeMsg
+answer rs v = pick (fits_any rs v) (Ok (first_message rs v)) (Err (first_message rs v))

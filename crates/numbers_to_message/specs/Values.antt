@@ -107,6 +107,10 @@ Value type.One = Unit {0}
 Value type.Two = Unit {0}
 Value type.Three = Unit {0}
 
+-- a loop, of which 65,536 says all
+abbrev pub loop_value : LoopNumber → ℕ → Option LoopNumber
+loop_value all x = apart 65536 all (λ n. map_option Loop (below (2 ^ 16) n)) x
+
 -- each number of 64 bits is some U64
 abbrev pub value : (t : NumberType) → ℕ → Option (Value t)
 value type.U8 x = below (2 ^ 8) x
@@ -117,8 +121,8 @@ value type.I8 x = signed (2 ^ 7) x
 value type.I16 x = signed (2 ^ 15) x
 value type.Flag x = numbered bit (false ∷ true ∷ []) x
 value type.Device x = apart 256 AllCall (λ n. map_option Device (below (2 ^ 8) n)) x
-value type.RequestedLoop x = apart 65536 RequestAll (λ n. map_option Loop (below (2 ^ 16) n)) x
-value type.TransmittedLoop x = apart 65536 DeleteAll (λ n. map_option Loop (below (2 ^ 16) n)) x
+value type.RequestedLoop x = loop_value RequestAll x
+value type.TransmittedLoop x = loop_value DeleteAll x
 value type.LoopType x = numbered loop_byte loop_types x
 value type.ExtendedLoopType x = numbered extended_loop_byte extended_loop_types x
 value type.FileType x = map_option spelled (below (2 ^ 32) x)

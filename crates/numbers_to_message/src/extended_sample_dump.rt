@@ -1,22 +1,23 @@
 // Messages whose head starts with 05: loop points, sample names and extended headers.
+// Kept as one function for each row: rows differ in the message that they make and in the types of its numbers.
 ghost use Rattle.std.specs.Prelude.{◌≡◌, []};
 ghost use Rattle.numbers_to_message.specs.Rows.{transmission, points_request, name, name_request, extended_header, extended_transmission, extended_points_request};
-ghost use Rattle.numbers_to_message.specs.Table.{find, extended_rows};
-ghost use Rattle.numbers_to_message.specs.Fits.{row_said, said};
+ghost use Rattle.numbers_to_message.specs.Table.{find, one, extended_rows};
+ghost use Rattle.numbers_to_message.specs.Fits.{answer, first_message};
 
-use crate::fit::{NumberType, fits_row};
+use crate::fit::NumberType;
+use crate::rows::{Answer, message_of, row};
 use crate::values::{
-    extended_loop_type_at, loop_type_at, number_at, requested_loop_at, transmitted_loop_at, u8_at,
-    u16_at, u32_at,
+    extended_loop_type_at, loop_at, loop_type_at, number_at, u8_at, u16_at, u32_at,
 };
-use messages::sample_dump::{ExtendedSampleDumpMsg, SampleDumpMsg};
+use messages::sample_dump::{ExtendedSampleDumpMsg, LoopNumber, SampleDumpMsg};
 use messages::system_exclusive::UniversalNonRealTimeMsg;
 
-// A loop point transmission, where the numbers fit it.
-fn transmission(v: &[u64]) -> Option<UniversalNonRealTimeMsg>
-    ensures { result ≡ row_said transmission v.now }
+// A loop point transmission, and whether the numbers fit it.
+fn transmission(v: &[u64]) -> Answer
+    ensures { result ≡ answer (one transmission) v.now }
 {
-    fits_row(
+    row(
         v,
         &[
             NumberType::U16,
@@ -25,55 +26,61 @@ fn transmission(v: &[u64]) -> Option<UniversalNonRealTimeMsg>
             NumberType::U32,
             NumberType::U32,
         ],
-    )
-    .then_some(UniversalNonRealTimeMsg::SampleDump(SampleDumpMsg::LoopPointTransmission {
-        sample_num: u16_at(v, 2),
-        loop_num: transmitted_loop_at(v, 3),
-        loop_type: loop_type_at(v, 4),
-        start_addr: u32_at(v, 5),
-        end_addr: u32_at(v, 6),
-    }))
-}
-
-// A loop points request, where the numbers fit it.
-fn points_request(v: &[u64]) -> Option<UniversalNonRealTimeMsg>
-    ensures { result ≡ row_said points_request v.now }
-{
-    fits_row(v, &[NumberType::U16, NumberType::RequestedLoop]).then_some(
-        UniversalNonRealTimeMsg::SampleDump(SampleDumpMsg::LoopPointsRequest {
+        UniversalNonRealTimeMsg::SampleDump(SampleDumpMsg::LoopPointTransmission {
             sample_num: u16_at(v, 2),
-            loop_num: requested_loop_at(v, 3),
+            loop_num: loop_at(v, 3, LoopNumber::DeleteAll),
+            loop_type: loop_type_at(v, 4),
+            start_addr: u32_at(v, 5),
+            end_addr: u32_at(v, 6),
         }),
     )
 }
 
-// A sample name, where the numbers fit it.
-fn name(v: &[u64]) -> Option<UniversalNonRealTimeMsg>
-    ensures { result ≡ row_said name v.now }
+// A loop points request, and whether the numbers fit it.
+fn points_request(v: &[u64]) -> Answer
+    ensures { result ≡ answer (one points_request) v.now }
 {
-    fits_row(v, &[NumberType::U16]).then_some(UniversalNonRealTimeMsg::ExtendedSampleDump(
-        ExtendedSampleDumpMsg::SampleName {
+    row(
+        v,
+        &[NumberType::U16, NumberType::RequestedLoop],
+        UniversalNonRealTimeMsg::SampleDump(SampleDumpMsg::LoopPointsRequest {
             sample_num: u16_at(v, 2),
-        },
-    ))
+            loop_num: loop_at(v, 3, LoopNumber::RequestAll),
+        }),
+    )
 }
 
-// A sample name request, where the numbers fit it.
-fn name_request(v: &[u64]) -> Option<UniversalNonRealTimeMsg>
-    ensures { result ≡ row_said name_request v.now }
+// A sample name, and whether the numbers fit it.
+fn name(v: &[u64]) -> Answer
+    ensures { result ≡ answer (one name) v.now }
 {
-    fits_row(v, &[NumberType::U16]).then_some(UniversalNonRealTimeMsg::ExtendedSampleDump(
-        ExtendedSampleDumpMsg::SampleNameRequest {
+    row(
+        v,
+        &[NumberType::U16],
+        UniversalNonRealTimeMsg::ExtendedSampleDump(ExtendedSampleDumpMsg::SampleName {
             sample_num: u16_at(v, 2),
-        },
-    ))
+        }),
+    )
 }
 
-// An extended sample dump header, where the numbers fit it.
-fn header(v: &[u64]) -> Option<UniversalNonRealTimeMsg>
-    ensures { result ≡ row_said extended_header v.now }
+// A sample name request, and whether the numbers fit it.
+fn name_request(v: &[u64]) -> Answer
+    ensures { result ≡ answer (one name_request) v.now }
 {
-    fits_row(
+    row(
+        v,
+        &[NumberType::U16],
+        UniversalNonRealTimeMsg::ExtendedSampleDump(ExtendedSampleDumpMsg::SampleNameRequest {
+            sample_num: u16_at(v, 2),
+        }),
+    )
+}
+
+// An extended sample dump header, and whether the numbers fit it.
+fn header(v: &[u64]) -> Answer
+    ensures { result ≡ answer (one extended_header) v.now }
+{
+    row(
         v,
         &[
             NumberType::U16,
@@ -86,25 +93,25 @@ fn header(v: &[u64]) -> Option<UniversalNonRealTimeMsg>
             NumberType::ExtendedLoopType,
             NumberType::U8,
         ],
+        UniversalNonRealTimeMsg::ExtendedSampleDump(ExtendedSampleDumpMsg::Header {
+            sample_num: u16_at(v, 2),
+            format: u8_at(v, 3),
+            sample_rate_integer: u32_at(v, 4),
+            sample_rate_fraction: u32_at(v, 5),
+            length: number_at(v, 6),
+            sustain_loop_start: number_at(v, 7),
+            sustain_loop_end: number_at(v, 8),
+            loop_type: extended_loop_type_at(v, 9),
+            num_channels: u8_at(v, 10),
+        }),
     )
-    .then_some(UniversalNonRealTimeMsg::ExtendedSampleDump(ExtendedSampleDumpMsg::Header {
-        sample_num: u16_at(v, 2),
-        format: u8_at(v, 3),
-        sample_rate_integer: u32_at(v, 4),
-        sample_rate_fraction: u32_at(v, 5),
-        length: number_at(v, 6),
-        sustain_loop_start: number_at(v, 7),
-        sustain_loop_end: number_at(v, 8),
-        loop_type: extended_loop_type_at(v, 9),
-        num_channels: u8_at(v, 10),
-    }))
 }
 
-// An extended loop point transmission, where the numbers fit it.
-fn extended_transmission(v: &[u64]) -> Option<UniversalNonRealTimeMsg>
-    ensures { result ≡ row_said extended_transmission v.now }
+// An extended loop point transmission, and whether the numbers fit it.
+fn extended_transmission(v: &[u64]) -> Answer
+    ensures { result ≡ answer (one extended_transmission) v.now }
 {
-    fits_row(
+    row(
         v,
         &[
             NumberType::U16,
@@ -113,33 +120,35 @@ fn extended_transmission(v: &[u64]) -> Option<UniversalNonRealTimeMsg>
             NumberType::U64,
             NumberType::U64,
         ],
+        UniversalNonRealTimeMsg::ExtendedSampleDump(
+            ExtendedSampleDumpMsg::LoopPointTransmission {
+                sample_num: u16_at(v, 2),
+                loop_num: loop_at(v, 3, LoopNumber::DeleteAll),
+                loop_type: extended_loop_type_at(v, 4),
+                start_addr: number_at(v, 5),
+                end_addr: number_at(v, 6),
+            },
+        ),
     )
-    .then_some(UniversalNonRealTimeMsg::ExtendedSampleDump(
-        ExtendedSampleDumpMsg::LoopPointTransmission {
-            sample_num: u16_at(v, 2),
-            loop_num: transmitted_loop_at(v, 3),
-            loop_type: extended_loop_type_at(v, 4),
-            start_addr: number_at(v, 5),
-            end_addr: number_at(v, 6),
-        },
-    ))
 }
 
-// An extended loop points request, where the numbers fit it.
-fn extended_points_request(v: &[u64]) -> Option<UniversalNonRealTimeMsg>
-    ensures { result ≡ row_said extended_points_request v.now }
+// An extended loop points request, and whether the numbers fit it.
+fn extended_points_request(v: &[u64]) -> Answer
+    ensures { result ≡ answer (one extended_points_request) v.now }
 {
-    fits_row(v, &[NumberType::U16, NumberType::RequestedLoop]).then_some(
+    row(
+        v,
+        &[NumberType::U16, NumberType::RequestedLoop],
         UniversalNonRealTimeMsg::ExtendedSampleDump(ExtendedSampleDumpMsg::LoopPointsRequest {
             sample_num: u16_at(v, 2),
-            loop_num: requested_loop_at(v, 3),
+            loop_num: loop_at(v, 3, LoopNumber::RequestAll),
         }),
     )
 }
 
-// The message of a head code that starts with 05, where the numbers fit it.
-pub fn message(v: &[u64], code: u64) -> Option<UniversalNonRealTimeMsg>
-    ensures { result ≡ said (find code extended_rows []) v.now }
+// The message of a head code that starts with 05, and whether the numbers fit it.
+pub fn answer(v: &[u64], code: u64) -> Answer
+    ensures { result ≡ answer (find code extended_rows []) v.now }
 {
     match code {
         0x0501 => transmission(v),
@@ -149,6 +158,13 @@ pub fn message(v: &[u64], code: u64) -> Option<UniversalNonRealTimeMsg>
         0x0505 => header(v),
         0x0506 => extended_transmission(v),
         0x0507 => extended_points_request(v),
-        _ => None,
+        _ => Err(UniversalNonRealTimeMsg::EOF),
     }
+}
+
+// The message of a head code that starts with 05.
+pub fn message(v: &[u64], code: u64) -> UniversalNonRealTimeMsg
+    ensures { result ≡ first_message (find code extended_rows []) v.now }
+{
+    message_of(answer(v, code))
 }

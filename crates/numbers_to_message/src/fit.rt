@@ -1,8 +1,13 @@
 // The types of numbers, and whether a number fits one.
-ghost use Rattle.std.specs.Prelude.{◌≡◌, true, eqb, ltb};
-ghost use Rattle.util.specs.Pick.{pick};
+ghost use Rattle.std.specs.Prelude.{◌≡◌};
 ghost use Rattle.numbers_to_message.specs.Values.{signed};
 ghost use Rattle.numbers_to_message.specs.Fits.{fit, fits, is_some};
+
+use crate::number::{
+    bank_of, device_of, extended_loop_type_of, file_type_of, flag_of, i8_of, i16_of, loop_of,
+    loop_type_of, reference_type_of, u8_of, u16_of, u32_of,
+};
+use messages::sample_dump::LoopNumber;
 
 // What a number of a message says; Zero to Three are the number itself.
 #[derive(Clone, Copy)]
@@ -28,65 +33,18 @@ pub enum NumberType {
     Three,
 }
 
-// Whether a number is a limit or below it.
-fn is_up_to(x: u64, limit: u64) -> bool
-    ensures { result ≡ pick (eqb x limit) true (ltb x limit) }
-{
-    if x == limit {
-        return true;
-    }
-    x < limit
-}
-
-// Whether a number is from -2^7 to below 2^7, in two's complement of 64 bits.
-fn is_i8(x: u64) -> bool
-    ensures { result ≡ is_some (signed 128 x) }
-{
-    if x < 128 {
-        return true;
-    }
-    18446744073709551488 <= x
-}
-
 // Whether a number is from -2^15 to below 2^15, in two's complement of 64 bits.
 pub fn is_i16(x: u64) -> bool
     ensures { result ≡ is_some (signed 32768 x) }
 {
-    if x < 32768 {
-        return true;
-    }
-    18446744073709518848 <= x
+    i16_of(x).is_some()
 }
 
 // Whether a number is 0, 1 or another one.
 pub fn is_loop_type(x: u64) -> bool
     ensures { result ≡ fit NumberType.LoopType x }
 {
-    match x {
-        0x00 => true,
-        0x01 => true,
-        0x7F => true,
-        _ => false,
-    }
-}
-
-// Whether a number is one of the extended loop types.
-fn is_extended_loop_type(x: u64) -> bool
-    ensures { result ≡ fit NumberType.ExtendedLoopType x }
-{
-    match x {
-        0x00 => true,
-        0x01 => true,
-        0x02 => true,
-        0x03 => true,
-        0x40 => true,
-        0x41 => true,
-        0x42 => true,
-        0x43 => true,
-        0x7E => true,
-        0x7F => true,
-        _ => false,
-    }
+    loop_type_of(x).is_some()
 }
 
 // Whether a number fits a type.
@@ -94,21 +52,21 @@ pub fn fits_type(t: NumberType, x: u64) -> bool
     ensures { result ≡ fit t x }
 {
     match t {
-        NumberType::U8 => x < 256,
-        NumberType::U16 => x < 65536,
-        NumberType::U32 => x < 4294967296,
+        NumberType::U8 => u8_of(x).is_some(),
+        NumberType::U16 => u16_of(x).is_some(),
+        NumberType::U32 => u32_of(x).is_some(),
         NumberType::U64 => true,
-        NumberType::I8 => is_i8(x),
-        NumberType::I16 => is_i16(x),
-        NumberType::Flag => x < 2,
-        NumberType::Device => is_up_to(x, 256),
-        NumberType::RequestedLoop => is_up_to(x, 65536),
-        NumberType::TransmittedLoop => is_up_to(x, 65536),
-        NumberType::LoopType => is_loop_type(x),
-        NumberType::ExtendedLoopType => is_extended_loop_type(x),
-        NumberType::FileType => x < 4294967296,
-        NumberType::ReferenceType => x < 3,
-        NumberType::BankOrNone => is_up_to(x, 256),
+        NumberType::I8 => i8_of(x).is_some(),
+        NumberType::I16 => i16_of(x).is_some(),
+        NumberType::Flag => flag_of(x).is_some(),
+        NumberType::Device => device_of(x).is_some(),
+        NumberType::RequestedLoop => loop_of(x, LoopNumber::RequestAll).is_some(),
+        NumberType::TransmittedLoop => loop_of(x, LoopNumber::DeleteAll).is_some(),
+        NumberType::LoopType => loop_type_of(x).is_some(),
+        NumberType::ExtendedLoopType => extended_loop_type_of(x).is_some(),
+        NumberType::FileType => file_type_of(x).is_some(),
+        NumberType::ReferenceType => reference_type_of(x).is_some(),
+        NumberType::BankOrNone => bank_of(x).is_some(),
         NumberType::Zero => x == 0,
         NumberType::One => x == 1,
         NumberType::Two => x == 2,
@@ -117,6 +75,8 @@ pub fn fits_type(t: NumberType, x: u64) -> bool
 }
 
 // Whether the numbers from the third on are one for each type, and fit.
+// Inlined, so that a row's types are known: called, it took 11 of the 65 ns of an extended header (docs/SPEED.md).
+#[inline(always)]
 pub fn fits_row(v: &[u64], types: &[NumberType]) -> bool
     ensures { result ≡ fits types.now v.now 2 }
 {

@@ -1,11 +1,12 @@
 // Identity requests and replies.
 ghost use Rattle.std.specs.Prelude.{◌≡◌, []};
 ghost use Rattle.numbers_to_message.specs.Rows.{one_byte_reply, two_byte_reply};
-ghost use Rattle.numbers_to_message.specs.Table.{find, identity_rows};
-ghost use Rattle.numbers_to_message.specs.Fits.{row_said, said};
+ghost use Rattle.numbers_to_message.specs.Table.{find, one, identity_rows};
+ghost use Rattle.numbers_to_message.specs.Fits.{answer, first_message};
 ghost use Rattle.numbers_to_message.specs.Places.{reply_at};
 
-use crate::fit::{NumberType, fits_row};
+use crate::fit::NumberType;
+use crate::rows::{Answer, message_of, row};
 use crate::values::{u8_at, u16_at};
 use messages::system_exclusive::{IdentityReply, ManufacturerID, UniversalNonRealTimeMsg};
 
@@ -21,11 +22,11 @@ fn reply(id: ManufacturerID, v: &[u64]) -> UniversalNonRealTimeMsg
     })
 }
 
-// An identity reply of a maker of one byte, where the numbers fit it.
-fn one_byte_reply(v: &[u64]) -> Option<UniversalNonRealTimeMsg>
-    ensures { result ≡ row_said one_byte_reply v.now }
+// An identity reply of a maker of one byte, and whether the numbers fit it.
+fn one_byte_reply(v: &[u64]) -> Answer
+    ensures { result ≡ answer (one one_byte_reply) v.now }
 {
-    fits_row(
+    row(
         v,
         &[
             NumberType::Zero,
@@ -38,15 +39,15 @@ fn one_byte_reply(v: &[u64]) -> Option<UniversalNonRealTimeMsg>
             NumberType::U8,
             NumberType::U8,
         ],
+        reply(ManufacturerID::OneByte(u8_at(v, 3)), v),
     )
-    .then_some(reply(ManufacturerID::OneByte(u8_at(v, 3)), v))
 }
 
-// An identity reply of a maker of two bytes, where the numbers fit it.
-fn two_byte_reply(v: &[u64]) -> Option<UniversalNonRealTimeMsg>
-    ensures { result ≡ row_said two_byte_reply v.now }
+// An identity reply of a maker of two bytes, and whether the numbers fit it.
+fn two_byte_reply(v: &[u64]) -> Answer
+    ensures { result ≡ answer (one two_byte_reply) v.now }
 {
-    fits_row(
+    row(
         v,
         &[
             NumberType::One,
@@ -59,17 +60,24 @@ fn two_byte_reply(v: &[u64]) -> Option<UniversalNonRealTimeMsg>
             NumberType::U8,
             NumberType::U8,
         ],
+        reply(ManufacturerID::Extended(u8_at(v, 3), u8_at(v, 4)), v),
     )
-    .then_some(reply(ManufacturerID::Extended(u8_at(v, 3), u8_at(v, 4)), v))
 }
 
-// The identity message of a head code, where the numbers fit it.
-pub fn message(v: &[u64], code: u64) -> Option<UniversalNonRealTimeMsg>
-    ensures { result ≡ said (find code identity_rows []) v.now }
+// The identity message of a head code, and whether the numbers fit it.
+pub fn answer(v: &[u64], code: u64) -> Answer
+    ensures { result ≡ answer (find code identity_rows []) v.now }
 {
     match code {
-        0x0601 => fits_row(v, &[]).then_some(UniversalNonRealTimeMsg::IdentityRequest),
+        0x0601 => row(v, &[], UniversalNonRealTimeMsg::IdentityRequest),
         0x0602 => one_byte_reply(v).or(two_byte_reply(v)),
-        _ => None,
+        _ => Err(UniversalNonRealTimeMsg::EOF),
     }
+}
+
+// The identity message of a head code.
+pub fn message(v: &[u64], code: u64) -> UniversalNonRealTimeMsg
+    ensures { result ≡ first_message (find code identity_rows []) v.now }
+{
+    message_of(answer(v, code))
 }

@@ -3,10 +3,10 @@
 
 ghost use Rattle.std.specs.Prelude.{◌≡◌};
 ghost use Rattle.numbers_to_message.specs.Table.{rows_of, message_of_numbers};
-ghost use Rattle.numbers_to_message.specs.Fits.{said};
+ghost use Rattle.numbers_to_message.specs.Fits.{answer};
 
-use fit::NumberType;
 use messages::system_exclusive::{DeviceID, UniversalNonRealTimeMsg};
+use rows::Answer;
 
 pub mod extended_sample_dump;
 pub mod file_dump;
@@ -16,30 +16,27 @@ pub mod fit;
 pub mod general_midi;
 pub mod handshake;
 pub mod identity;
+mod maps;
+mod number;
+pub mod rows;
 pub mod sample_dump;
 pub mod tuning;
 pub mod values;
 
-// The message of a head code, by its first byte.
-fn message(v: &[u64], code: u64) -> Option<UniversalNonRealTimeMsg>
-    ensures { result ≡ said (rows_of code) v.now }
+// The message of a head code, by its first byte, and whether the numbers fit it.
+fn answer(v: &[u64], code: u64) -> Answer
+    ensures { result ≡ answer (rows_of code) v.now }
 {
     match code / 256 {
-        0x01 => sample_dump::message(v, code),
-        0x02 => sample_dump::message(v, code),
-        0x03 => sample_dump::message(v, code),
-        0x05 => extended_sample_dump::message(v, code),
-        0x06 => identity::message(v, code),
-        0x07 => file_dump::message(v, code),
-        0x08 => tuning::message(v, code),
-        0x09 => general_midi::message(v, code),
-        0x0B => file_reference::message(v, code),
-        0x7B => handshake::message(v, code),
-        0x7C => handshake::message(v, code),
-        0x7D => handshake::message(v, code),
-        0x7E => handshake::message(v, code),
-        0x7F => handshake::message(v, code),
-        _ => None,
+        0x01 | 0x02 | 0x03 => sample_dump::answer(v, code),
+        0x05 => extended_sample_dump::answer(v, code),
+        0x06 => identity::answer(v, code),
+        0x07 => file_dump::answer(v, code),
+        0x08 => tuning::answer(v, code),
+        0x09 => general_midi::answer(v, code),
+        0x0B => file_reference::answer(v, code),
+        0x7B | 0x7C | 0x7D | 0x7E | 0x7F => handshake::answer(v, code),
+        _ => Err(UniversalNonRealTimeMsg::EOF),
     }
 }
 
@@ -50,9 +47,7 @@ pub fn from_numbers(v: &[u64]) -> Option<(DeviceID, UniversalNonRealTimeMsg)>
     if v.len() < 2 {
         return None;
     }
-    if !fit::fits_type(NumberType::Device, values::number_at(v, 1)) {
-        return None;
-    }
-    let m = message(v, values::number_at(v, 0))?;
-    Some((values::device_at(v, 1), m))
+    let device = number::device_of(values::number_at(v, 1))?;
+    let m = answer(v, values::number_at(v, 0)).ok()?;
+    Some((device, m))
 }

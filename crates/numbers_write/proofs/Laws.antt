@@ -11,7 +11,7 @@ use lib.ListN.{length, get_or, drop, replicate, length-drop}
 use borrow.Author.Tests.{ltb-true, ltb-false, leb-true, le-leb, lt-ltb, le-ltb, ne_eqb, eqb-true, eqb-false}
 use Rattle.util.proofs.Laws.Options.{false_true}
 use Rattle.util.specs.Pick.{pick}
-use Rattle.messages.proofs.Walk.{bool_cases}
+use Rattle.std.proofs.lemmas.Bool.{cases_Bool}
 use Rattle.numbers_to_message.specs.declared.fit.NumberType.{NumberType}
 use Rattle.numbers_to_message.specs.declared.fit.NumberType.TheVariants as type
 use Rattle.numbers_to_message.specs.Values.{value, below}
@@ -46,8 +46,8 @@ message_is v = ⊎_elim
     (λ e. rw e (⊎_elim
     (λ f. whole_is v (get_or v 0 0) f ∙ rw f refl)
     (λ f. given_none (value type.Device (get_or v 1 0)) (misfit type.Device) _ f ∙ rw f refl)
-    (bool_cases (fit type.Device (get_or v 1 0)))))
-    (bool_cases (ltb (length v) 2))
+    (cases_Bool (fit type.Device (get_or v 1 0)))))
+    (cases_Bool (ltb (length v) 2))
 
 -- ---- a number that fits a type, or does not
 
@@ -63,7 +63,7 @@ module _ (x : ℕ) where
   device_fits h = ⊎_elim
       (λ (e : ltb x 256 ≡ true). rw (ne_eqb x 256 (λ z. omega (arith, ltb-true x 256 e)), lt-ltb x (2 ^ 8) (omega (arith, ltb-true x 256 e))))
       (λ (e : ltb x 256 ≡ false). let z : x ≡ 256 = omega (arith, ltb-false x 256 e) in rw z)
-      (bool_cases (ltb x 256))
+      (cases_Bool (ltb x 256))
 
   pub device_misfits : 256 < x → fit type.Device x ≡ false
   device_misfits h = rw (ne_eqb x 256 (λ z. omega arith), le-ltb x (2 ^ 8) (omega arith))
@@ -75,7 +75,7 @@ module _ (x : ℕ) where
   misfits_8 h = above_misfits (2 ^ 8) x (omega arith)
 
   pub below_8 : ltb x 256 ≡ pick (fit type.U8 x) true false
-  below_8 = ⊎_elim (λ (e : ltb x 256 ≡ true). rw e) (λ (e : ltb x 256 ≡ false). rw e) (bool_cases (ltb x 256))
+  below_8 = ⊎_elim (λ (e : ltb x 256 ≡ true). rw e) (λ (e : ltb x 256 ≡ false). rw e) (cases_Bool (ltb x 256))
 
   pub fits_16 : x ≤ 65535 → fit type.U16 x ≡ true
   fits_16 h = below_fits (2 ^ 16) x (omega arith)
@@ -98,9 +98,9 @@ many (t ∷ ts) v i h e = ⊎_elim
     (λ (f : ltb i (length v) ≡ true). ⊎_elim
     (λ (g : fit t (get_or v i 0) ≡ true). let q = many ts v (suc i) (ltb-true i (length v) f) (rw (f, g) at e) in omega (arith, q))
     (λ (g : fit t (get_or v i 0) ≡ false). absurd (false_true (rw (f, g) at e)))
-    (bool_cases (fit t (get_or v i 0))))
+    (cases_Bool (fit t (get_or v i 0))))
     (λ (f : ltb i (length v) ≡ false). absurd (false_true (rw f at e)))
-    (bool_cases (ltb i (length v)))
+    (cases_Bool (ltb i (length v)))
 
 -- no message where the fields are more or fewer
 pub other_length : (v : List ℕ) (ts : List NumberType) → fits_any (rows_of (get_or v 0 0)) v ≡ fits ts v 2 → (length v ≡ 2 + length ts → ⊥) → false ≡ is_message v
@@ -109,8 +109,8 @@ other_length v ts q n = ⊎_elim
     (λ (e : ltb (length v) 2 ≡ false). rw (e, q) (⊎_elim
     (λ (f : fits ts v 2 ≡ true). absurd (n (many ts v 2 (ltb-false (length v) 2 e) f)))
     (λ (f : fits ts v 2 ≡ false). rw f (either (fit type.Device (get_or v 1 0))))
-    (bool_cases (fits ts v 2))))
-    (bool_cases (ltb (length v) 2))
+    (cases_Bool (fits ts v 2))))
+    (cases_Bool (ltb (length v) 2))
 
 -- ---- numbers of one type, to the last
 
@@ -127,7 +127,7 @@ module _ (v : List ℕ) (t : NumberType) where
       (λ (q : eqb i k ≡ false).
       let z : i ≡ k → ⊥ = eqb-false i k q in
       rw (lt-ltb i (length v) (omega arith), one_misfits n (suc i) k (omega arith) (omega arith) b f) (sym (either (fit t (get_or v i 0)))))
-      (bool_cases (eqb i k))
+      (cases_Bool (eqb i k))
 
   -- the answer of a test of each number of a slice, those from a place on
   pub all_fit : (n i : ℕ) (r : Bool) (s : List ℕ) → s ≡ drop i v → i + n ≡ length v → (r ≡ true → (k : ℕ) → k < length s → fit t (get_or s k 0) ≡ true)

@@ -26,7 +26,7 @@ pub enum WriteError {
 }
 
 impl WriteError {
-    // The number of an error.
+    // The number of an error. Kept as a number: C gets it.
     pub fn number(self) -> u32
         ensures { result ≡ error_number self }
     {

@@ -16,7 +16,7 @@ fn frames_under(e: WalkError) -> u64
     }
 }
 
-// Lists the frames of a stream in an index; the value is the number of frames.
+// Lists the frames of a stream in an index; the value is the number of frames. Kept as numbers: C gets them.
 pub fn walk_for(stream: &[u8], kind: Kind, index: &mut [u32], value: &mut u64) -> u32
     ensures number { result ≡ walked_number (answer kind stream.now index.old) }
     ensures value { value.new ≡ walked_value (answer kind stream.now index.old) }

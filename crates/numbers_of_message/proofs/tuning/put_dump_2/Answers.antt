@@ -3,4 +3,4 @@
 use Rattle.numbers_of_message.proofs.tuning.put_dump_2.Goals as goal
 
 pub returns : goal.returns
-returns c = rw (← c.scale_2-v.ensures) c.put_both.ensures
+returns c = rw (← c.scale_2.ensures) c.put_both.ensures

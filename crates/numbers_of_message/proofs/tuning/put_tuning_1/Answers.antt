@@ -3,4 +3,4 @@
 use Rattle.numbers_of_message.proofs.tuning.put_tuning_1.Goals as goal
 
 pub returns : goal.returns
-returns c = rw (← c.scale_1-v.ensures) c.put_both.ensures
+returns c = rw (← c.scale_1.ensures) c.put_both.ensures

@@ -1,9 +1,7 @@
--- `numbers_to_message::file_reference_open::open_select` meets its contract: each form is a row, in order.
+-- `numbers_to_message::file_reference_open::open_select` meets its contract: an answer has the message of its rows.
 -- Assumes nothing.
-use Rattle.numbers_to_message.proofs.Laws.{four_said}
+use Rattle.numbers_to_message.proofs.Laws.{message_is}
 use Rattle.numbers_to_message.proofs.file_reference_open.open_select.Goals as goal
 
 pub returns : goal.returns
-returns c =
-    rw (c.or-3.ensures, c.or-2.ensures, c.or.ensures, c.open_list.ensures, c.open_offset.ensures, c.open_wav.ensures, c.open_both.ensures)
-    (four_said _ _ _ _ _ _ _ _)
+returns c = message_is _ _ _ _ c.open_select_answer.ensures c.message_of.ensures

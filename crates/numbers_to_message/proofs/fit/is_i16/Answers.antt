@@ -1,12 +1,9 @@
--- `numbers_to_message::fit::is_i16` meets its contract: the tests are those of the definition.
+-- `numbers_to_message::fit::is_i16` meets its contract: whether the number says a value.
 -- Assumes nothing.
-use borrow.Author.Tests.{lt-ltb, le-ltb}
-use mathlib.Core.Path.{refl}
-use Rattle.numbers_to_message.proofs.Laws.{upper_some}
+use Rattle.numbers_to_message.specs.declared.fit.NumberType.TheVariants.{I16}
+use Rattle.numbers_to_message.specs.Values.{value}
+use Rattle.numbers_to_message.proofs.Options.{some_is}
 use Rattle.numbers_to_message.proofs.fit.is_i16.Goals as goal
 
-pub returns-then-x-lt32768 : goal.returns-then-x-lt32768
-returns-then-x-lt32768 c = rw (lt-ltb _ _ c.if-x-lt32768.true)
-
 pub returns : goal.returns
-returns c = rw (le-ltb _ _ c.if-x-lt32768.false) (upper_some c.args.x 18446744073709518848 _ _ refl)
+returns c = rw (c.is_some.ensures, c.i16_of.ensures) (some_is (value I16 c.args.x))

@@ -1,33 +1,11 @@
--- `numbers_to_message::values::extended_loop_type_at` meets its contract: the tests are those of the definition.
+-- `numbers_to_message::values::extended_loop_type_at` meets its contract: the value that the number says, or else the one of a misfit.
 -- Assumes nothing.
+use lib.ListN.{get_or}
+use Rattle.numbers_to_message.specs.declared.fit.NumberType.TheVariants.{ExtendedLoopType}
+use Rattle.numbers_to_message.specs.Values.{value}
+use Rattle.numbers_to_message.specs.Fits.{misfit}
+use Rattle.numbers_to_message.proofs.Options.{or_is}
 use Rattle.numbers_to_message.proofs.values.extended_loop_type_at.Goals as goal
 
-pub returns-in-0 : goal.returns-in-0
-returns-in-0 c = rw (← c.number_at-x.ensures, c.in-0.is)
-
-pub returns-in-1 : goal.returns-in-1
-returns-in-1 c = rw (← c.number_at-x.ensures, c.in-1.is)
-
-pub returns-in-2 : goal.returns-in-2
-returns-in-2 c = rw (← c.number_at-x.ensures, c.in-2.is)
-
-pub returns-in-3 : goal.returns-in-3
-returns-in-3 c = rw (← c.number_at-x.ensures, c.in-3.is)
-
-pub returns-in-64 : goal.returns-in-64
-returns-in-64 c = rw (← c.number_at-x.ensures, c.in-64.is)
-
-pub returns-in-65 : goal.returns-in-65
-returns-in-65 c = rw (← c.number_at-x.ensures, c.in-65.is)
-
-pub returns-in-66 : goal.returns-in-66
-returns-in-66 c = rw (← c.number_at-x.ensures, c.in-66.is)
-
-pub returns-in-67 : goal.returns-in-67
-returns-in-67 c = rw (← c.number_at-x.ensures, c.in-67.is)
-
-pub returns-in-126 : goal.returns-in-126
-returns-in-126 c = rw (← c.number_at-x.ensures, c.in-126.is)
-
-pub returns-in-127 : goal.returns-in-127
-returns-in-127 c = rw (← c.number_at-x.ensures, c.in-127.is)
+pub returns : goal.returns
+returns c = rw (c.unwrap_or.ensures, c.extended_loop_type_of.ensures, c.number_at.ensures) (or_is (value ExtendedLoopType (get_or c.args.v.now c.args.i 0)) (misfit ExtendedLoopType))

@@ -1,9 +1,11 @@
--- `numbers_to_message::values::flag_at` meets its contract: the tests are those of the definition.
+-- `numbers_to_message::values::flag_at` meets its contract: the value that the number says, or else the one of a misfit.
 -- Assumes nothing.
+use lib.ListN.{get_or}
+use Rattle.numbers_to_message.specs.declared.fit.NumberType.TheVariants.{Flag}
+use Rattle.numbers_to_message.specs.Values.{value}
+use Rattle.numbers_to_message.specs.Fits.{misfit}
+use Rattle.numbers_to_message.proofs.Options.{or_is}
 use Rattle.numbers_to_message.proofs.values.flag_at.Goals as goal
 
-pub returns-in-0 : goal.returns-in-0
-returns-in-0 c = rw (← c.number_at-x.ensures, c.in-0.is)
-
-pub returns-in-1 : goal.returns-in-1
-returns-in-1 c = rw (← c.number_at-x.ensures, c.in-1.is)
+pub returns : goal.returns
+returns c = rw (c.unwrap_or.ensures, c.flag_of.ensures, c.number_at.ensures) (or_is (value Flag (get_or c.args.v.now c.args.i 0)) (misfit Flag))

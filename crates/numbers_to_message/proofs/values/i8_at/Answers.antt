@@ -1,22 +1,17 @@
--- `numbers_to_message::values::i8_at` meets its contract: the tests are those of the definition.
+-- `numbers_to_message::values::i8_at` meets its contract: the value that the number says, or else the one of a misfit.
 -- Assumes nothing.
-use borrow.Author.Tests.{lt-ltb, le-ltb}
-use native.Mathlib.Omega.{arith}
-use Prim.Native.Nat.{◌-◌}
+use mathlib.Core.Path.{◌≡◌}
+use lib.ListN.{get_or}
 use mir.Syntax.{w8}
-use Rattle.numbers_to_message.proofs.Below.{below_fits, below_read}
+use mir.Val.{of_z, to_z}
+use borrow.Author.Rules.{rules}
+use Rattle.numbers_to_message.specs.declared.fit.NumberType.TheVariants.{I8}
+use Rattle.numbers_to_message.specs.Values.{value}
+use Rattle.numbers_to_message.specs.Fits.{misfit}
+use Rattle.numbers_to_message.proofs.Options.{or_is}
 use Rattle.numbers_to_message.proofs.values.i8_at.Goals as goal
-
-pub returns-then-x-lt128 : goal.returns-then-x-lt128
-returns-then-x-lt128 c = rw (← c.number_at-x.ensures, lt-ltb _ _ c.if-x-lt128.true)
-
-pub returns-then-x-lt18446744073709551488 : goal.returns-then-x-lt18446744073709551488
-returns-then-x-lt18446744073709551488 c = rw (← c.number_at-x.ensures, le-ltb _ _ c.if-x-lt128.false, lt-ltb _ _ c.if-x-lt18446744073709551488.true)
-
-pub overflow_sub-result : goal.overflow_sub-result
-overflow_sub-result c = below_fits w8 (18446744073709551615 - c.number_at-x.result) (omega arith)
 
 pub returns : goal.returns
 returns c =
-    rw (← c.number_at-x.ensures, le-ltb _ _ c.if-x-lt128.false, le-ltb _ _ c.if-x-lt18446744073709551488.false)
-    (below_read w8 (18446744073709551615 - c.number_at-x.result) (omega arith))
+    let z : to_z w8 (of_z w8 c.unwrap_or.result) ≡ c.unwrap_or.result = search rules in
+    rw (z, c.unwrap_or.ensures, c.i8_of.ensures, c.number_at.ensures) (or_is (value I8 (get_or c.args.v.now c.args.i 0)) (misfit I8))

@@ -1,10 +1,11 @@
--- `numbers_to_message::values::u16_at` meets its contract: the tests are those of the definition.
+-- `numbers_to_message::values::u16_at` meets its contract: the value that the number says, or else the one of a misfit.
 -- Assumes nothing.
-use borrow.Author.Tests.{lt-ltb, le-ltb}
+use lib.ListN.{get_or}
+use Rattle.numbers_to_message.specs.declared.fit.NumberType.TheVariants.{U16}
+use Rattle.numbers_to_message.specs.Values.{value}
+use Rattle.numbers_to_message.specs.Fits.{misfit}
+use Rattle.numbers_to_message.proofs.Options.{or_is}
 use Rattle.numbers_to_message.proofs.values.u16_at.Goals as goal
 
-pub returns-then-x-lt65536 : goal.returns-then-x-lt65536
-returns-then-x-lt65536 c = rw (← c.number_at-x.ensures, lt-ltb _ _ c.if-x-lt65536.true)
-
-pub returns-else-x-lt65536 : goal.returns-else-x-lt65536
-returns-else-x-lt65536 c = rw (← c.number_at-x.ensures, le-ltb _ _ c.if-x-lt65536.false)
+pub returns : goal.returns
+returns c = rw (c.unwrap_or.ensures, c.u16_of.ensures, c.number_at.ensures) (or_is (value U16 (get_or c.args.v.now c.args.i 0)) (misfit U16))

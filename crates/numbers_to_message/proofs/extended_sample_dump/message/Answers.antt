@@ -1,0 +1,7 @@
+-- `numbers_to_message::extended_sample_dump::message` meets its contract: an answer has the message of its rows.
+-- Assumes nothing.
+use Rattle.numbers_to_message.proofs.Laws.{message_is}
+use Rattle.numbers_to_message.proofs.extended_sample_dump.message.Goals as goal
+
+pub returns : goal.returns
+returns c = message_is _ _ _ _ c.answer.ensures c.message_of.ensures

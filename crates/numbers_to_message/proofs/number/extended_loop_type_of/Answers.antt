@@ -1,0 +1,8 @@
+-- `numbers_to_message::number::extended_loop_type_of` meets its contract: the loop type is that of the byte.
+-- Assumes nothing.
+use mathlib.Core.Path.{◌∙◌}
+use Rattle.numbers_to_message.proofs.Loops.{extended_loop_of_byte}
+use Rattle.numbers_to_message.proofs.number.extended_loop_type_of.Goals as goal
+
+pub returns : goal.returns
+returns c = c.ok.ensures.value ∙ extended_loop_of_byte c.args.x c.in_ok-u8_of.field-0 c.try_from.result c.in_ok-u8_of.ensures c.try_from.ensures
