@@ -12,6 +12,7 @@ use std::os::fd::AsFd;
 type Words = ArrayVec<u8, 65536>;
 
 // Why the arguments are not taken: one is longer than any name of a file, or there is no room for their words.
+// Kept as an enum of its own: that there is no room is an error too, where None would say that nothing is wrong.
 #[derive(Clone, Copy, Debug, PartialEq, Eq)]
 pub enum Excess {
     Word(usize),

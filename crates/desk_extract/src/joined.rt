@@ -35,13 +35,13 @@ fn next_number(last: u8) -> u8
     last.wrapping_add(1) % 128
 }
 
-// Whether a packet may follow the last one; any may be the first.
+// Whether a packet may follow the last one; any may be the first, or behind a number that no packet has.
 fn is_next(last: Option<u8>, number: u8) -> bool
     ensures { result ≡ is_next last number }
 {
     match last {
-        Some(n) => next_number(n) == number,
-        None => true,
+        Some(n) if n < 128 => next_number(n) == number,
+        _ => true,
     }
 }
 

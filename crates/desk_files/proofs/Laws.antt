@@ -1,1 +1,2 @@
 pub mod Mend
+pub mod Walks

@@ -11,7 +11,7 @@ use Rattle.util.specs.Checksum.{checksum}
 use Rattle.messages.specs.declared.file_reference.Kind.{Kind}
 use Rattle.messages.specs.Messages.{given, body, framed}
 use Rattle.messages.specs.Promises.{IsFrame, checked, OtherSum}
-use Rattle.messages.proofs.Walk.{bool_cases}
+use Rattle.std.proofs.lemmas.Bool.{cases_Bool}
 use Rattle.messages.proofs.Exact.{write_settled, frame_unique}
 use Rattle.messages.proofs.Sums.{checked_same, summed_frame, sum_exactly}
 use lib.ListN.{length, drop, length-take, length-drop}
@@ -31,7 +31,7 @@ ends_or_whole s p r o h q =
     let b : p + most_stream < length s = leb-false (length s) (p + most_stream) a in
     let e : most_stream ≤ length (stretch s p most_stream) = omega (arith, length-take most_stream (drop p s), length-drop p s) in
     inl (omega (arith, h.whole o most_frame e q (omega arith), length-take most_stream (drop p s))))
-    (bool_cases (leb (length s) (p + most_stream)))
+    (cases_Bool (leb (length s) (p + most_stream)))
 
 pub piece_exact : PieceExact
 piece_exact k s p r o l h q = piece_lists k s p most_stream o l (ends_or_whole s p r o h q)

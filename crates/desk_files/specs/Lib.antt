@@ -1,3 +1,4 @@
 pub mod Promises
 pub mod Mend
 pub mod Sorts
+pub mod Walks

@@ -1,5 +1,5 @@
 // One stretch of bytes: where it ends, and its line.
-ghost use Rattle.std.specs.Prelude.{◌≡◌, ◌≤◌, length, take, drop};
+ghost use Rattle.std.specs.Prelude.{◌≡◌, ◌+◌, ◌≤◌, min, length, take, drop};
 
 use desk_io::names;
 use desk_messages::{Beside, refusals};
@@ -23,7 +23,8 @@ pub struct Part<'a> {
 impl<'a> Part<'a> {
     // The bytes from a place on, so many or as many as there are.
     pub fn part(self, from: usize, len: usize) -> Part<'a>
-        ensures { result.bytes.now ≡ take len (drop from self.entry.bytes.now) }
+        ensures bytes { result.bytes.now ≡ take len (drop from self.entry.bytes.now) }
+        ensures offset { result.offset ≡ min (self.entry.offset + from) 18446744073709551615 }
     {
         Part {
             bytes: sub_slice(self.bytes, from, len),

@@ -1,4 +1,5 @@
 // The name - stands for standard input or standard output; error lines about input files.
+// Kept as an output and a name of a file beside one another: one output serves the files of a whole command, so that a struct of both would be made for each file.
 ghost use Rattle.std.specs.Prelude.{◌≡◌};
 ghost use Rattle.desk_io.specs.Names.{is_dash};
 

@@ -8,6 +8,7 @@ use std::io::{Error, ErrorKind, Write};
 use std::str::from_utf8;
 
 // What is written: standard output, or a file that was made.
+// Kept as an enum of its own: standard output is written too, where None would say that nothing is.
 #[derive(Drop)]
 pub enum Target {
     Stdout,

@@ -1,5 +1,6 @@
 // A file read in pieces that overlap.
-ghost use Rattle.std.specs.Prelude.{◌≡◌, ℕ, ◌+◌, ◌-◌, ◌≤◌, ◌<◌, IfOk, eqb, length, get_or};
+// Kept as a source and a buffer beside one another: what is read goes behind what the buffer holds, and callers read the buffer between the reads.
+ghost use Rattle.std.specs.Prelude.{◌≡◌, ◌+◌, ◌-◌, ◌≤◌, IfOk, eqb, min, length, take, drop};
 ghost use Rattle.std.specs.Io.{ReadsAtMost};
 ghost use Rattle.desk_io.specs.Pieces.{NextPiece};
 
@@ -32,7 +33,9 @@ pub enum Source {
 }
 
 // The sum of two numbers, up to the largest number.
-pub fn sum(a: u64, b: u64) -> u64 {
+pub fn sum(a: u64, b: u64) -> u64
+    ensures { result ≡ min (a + b) 18446744073709551615 }
+{
     a.saturating_add(b)
 }
 
@@ -41,16 +44,6 @@ pub fn next_start(len: usize) -> usize
     ensures { NextPiece len result }
 {
     if len < PIECE { len } else { len - OVERLAP }
-}
-
-// Moves the bytes from a place up to an end to the start.
-fn shift(room: &mut [u8], at: usize, end: usize)
-    requires { (at ≤ end) × (end ≤ length room.old) }
-    ensures { (k : ℕ) → k < end - at → get_or room.new k 0 ≡ get_or room.old (at + k) 0 }
-{
-    for i in 0..end - at {
-        room[i] = room[at + i];
-    }
 }
 
 // Reads bytes of a source to the start of a buffer.
@@ -68,10 +61,7 @@ fn read_source(source: &mut Source, room: &mut [u8]) -> std::io::Result<usize>
 pub fn read_once(source: &mut Source, room: &mut [u8]) -> Result<usize, ErrorKind>
     ensures { IfOk result (λ n. n ≤ length room.old) }
 {
-    match read_source(source, room) {
-        Ok(count) => Ok(count),
-        Err(e) => Err(e.kind()),
-    }
+    read_source(source, room).map_err(|e| e.kind())
 }
 
 // Whether a read that gave so many bytes was at the end of the file: it gave none.
@@ -86,6 +76,7 @@ pub fn read_all(source: &mut Source, room: &mut [u8]) -> Result<usize, ErrorKind
     ensures { IfOk result (λ n. n ≤ length room.old) }
 {
     let mut n = 0;
+    // Kept as a loop: each turn goes on behind as many bytes as the read before it gave, which no iterator yields.
     while n < room.len() {
         let count = read_once(source, &mut room[n..])?;
         if is_end(count) {
@@ -107,9 +98,11 @@ pub fn first(source: &mut Source, room: &mut [u8], base: u64) -> Result<Piece, E
 // The next piece: the bytes from a place on move to the start, and more are read behind them.
 pub fn next(source: &mut Source, room: &mut [u8], p: Piece, at: usize) -> Result<Piece, ErrorKind>
     requires { (at ≤ p.len) × (p.len ≤ length room.old) }
-    ensures { IfOk result (λ q. q.len ≤ length room.old) }
+    ensures fits { IfOk result (λ q. q.len ≤ length room.old) }
+    ensures base { IfOk result (λ q. q.base ≡ min (p.base + at) 18446744073709551615) }
+    ensures kept { IfOk result (λ q. (p.len - at ≤ q.len) × (take (p.len - at) room.new ≡ drop at (take p.len room.old))) }
 {
-    shift(room, at, p.len);
+    room.copy_within(at..p.len, 0);
     let rest = p.len - at;
     let count = read_all(source, &mut room[rest..])?;
     Ok(Piece {
@@ -157,6 +150,7 @@ pub fn close(_source: Source) {}
 // Reads so many bytes of the file and drops them; whether there are as many.
 fn pass(source: &mut Source, room: &mut [u8], count: u64) -> bool {
     let mut left = count;
+    // Kept as a loop: each turn drops no more than the reads before it left, which no iterator yields.
     while 0 < left {
         match read_some(source, room, left) {
             Ok(count) if 0 < count => left -= count as u64,

@@ -152,13 +152,10 @@ impl InCents for i16 {
 
 // The fine tuning of a WAV map, where every field has a line.
 pub fn fine(out: &mut Output, style: Style, v: i16) {
-    match style {
-        Style::Line => {}
-        Style::Lines => {
-            say(out, b"fine tuning: ");
-            v.put_cents(out);
-            say(out, b" cents\n");
-        }
+    if let Style::Lines = style {
+        say(out, b"fine tuning: ");
+        v.put_cents(out);
+        say(out, b" cents\n");
     }
 }
 
@@ -179,8 +176,7 @@ fn notes<V: InCents>(out: &mut Output, values: &[V]) {
 
 // A line for each note of a scale, C first, where every field has a line.
 pub(crate) fn scale<V: InCents>(out: &mut Output, style: Style, values: &[V]) {
-    match style {
-        Style::Line => {}
-        Style::Lines => notes(out, values),
+    if let Style::Lines = style {
+        notes(out, values);
     }
 }

@@ -24,9 +24,8 @@ fn loop_points(out: &mut Output, style: Style, kind: &[u8], start: u64, end: u64
 
 // The sample bytes of a packet, where every field has a line.
 fn sample_bytes(out: &mut Output, style: Style, s: &[u8]) {
-    match style {
-        Style::Line => {}
-        Style::Lines => lists::data(out, s),
+    if let Style::Lines = style {
+        lists::data(out, s);
     }
 }
 

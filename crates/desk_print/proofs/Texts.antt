@@ -136,15 +136,33 @@ module _ (s : List ℕ) (n : ℕ) (p : 0 < n) (h : n ≤ length s) where
   last_apart : take n s ≡ take (n - 1) s ++ (get_or s (n - 1) 0 ∷ [])
   last_apart = let e : n ≡ suc (n - 1) = omega arith in ap (λ (k : ℕ). take k s) e ∙ take-suc s (n - 1) 0 (omega arith)
 
-  pub trimmed_less : get_or s (n - 1) 0 ≡ 32 → trimmed (take n s) ≡ trimmed s → trimmed (take (n - 1) s) ≡ trimmed s
+  trimmed_less : get_or s (n - 1) 0 ≡ 32 → trimmed (take n s) ≡ trimmed s → trimmed (take (n - 1) s) ≡ trimmed s
   trimmed_less e t =
       sym (trimmed_space (take (n - 1) s))
       ∙ ap (λ (b : ℕ). trimmed (take (n - 1) s ++ (b ∷ []))) (sym e)
       ∙ ap trimmed (sym last_apart)
       ∙ t
 
-  pub trimmed_here : (get_or s (n - 1) 0 ≡ 32 → ⊥) → trimmed (take n s) ≡ trimmed s → take n s ≡ trimmed s
+  trimmed_here : (get_or s (n - 1) 0 ≡ 32 → ⊥) → trimmed (take n s) ≡ trimmed s → take n s ≡ trimmed s
   trimmed_here e t = last_apart ∙ sym (trimmed_other (take (n - 1) s) (get_or s (n - 1) 0) e) ∙ ap trimmed (sym last_apart) ∙ t
+
+-- where only spaces stand from a place on, they make no difference
+trimmed_from : (s : List ℕ) (d n : ℕ) → n + d ≡ length s → ((k : ℕ) → n ≤ k → k < length s → get_or s k 0 ≡ 32) → trimmed (take n s) ≡ trimmed s
+trimmed_from s zero n e h = ap trimmed (take_all n s (omega arith))
+trimmed_from s (suc d) n e h =
+    let i : n + 1 - 1 ≡ n = omega arith in
+    rw i at (trimmed_less s (n + 1) (omega arith) (omega arith) (rw i (h n (omega arith) (omega arith))) (trimmed_from s d (n + 1) (omega arith) (λ k l m. h k (omega arith) m)))
+
+-- the name up to its last byte that is no space
+pub trimmed_at : (s : List ℕ) (i : ℕ) → i < length s → (get_or s i 0 ≡ 32 → ⊥) → ((k : ℕ) → i + 1 ≤ k → k < length s → get_or s k 0 ≡ 32) → take (i + 1) s ≡ trimmed s
+trimmed_at s i l e h =
+    let j : i + 1 - 1 ≡ i = omega arith in
+    trimmed_here s (i + 1) (omega arith) (omega arith) (rw j e) (trimmed_from s (length s - (i + 1)) (i + 1) (omega arith) h)
+
+-- a name of spaces alone
+pub trimmed_none : (s : List ℕ) → ((k : ℕ) → 0 ≤ k → k < length s → get_or s k 0 ≡ 32) → [] ≡ trimmed s
+unfolding trimmed
+trimmed_none s h = trimmed_from s (length s) 0 (omega arith) h
 
 -- ---- commas
 

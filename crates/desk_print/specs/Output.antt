@@ -1,10 +1,12 @@
 -- Standard output, gathered: what an output holds, and what putting a text to it means.
 use Rattle.std.specs.Prelude.{◌≡◌, Bool, true, false, List, [], ◌++◌, ℕ, ◌+◌, ◌≤◌, ◌<◌, length}
+use Rattle.desk_print.specs.declared.output.Stream.{Stream}
 
--- the bytes that are gathered and not yet written out, and whether a write has failed
+-- the bytes that are gathered and not yet written out, whether a write has failed, and the file of error lines
 pub record Gathering : Type 0 where
   pub text : List ℕ
   pub is_failed : Bool
+  pub errors : Stream
 
 -- the bytes that are gathered and not yet written out
 abbrev pub gathered : Gathering → List ℕ
@@ -33,11 +35,13 @@ pub record Put (before : Gathering) (text : List ℕ) (after : Gathering) : Type
 pub record Failed (before after : Gathering) : Type 0 where
   pub flag : after.is_failed ≡ true
   pub text : after.text ≡ before.text
+  pub errors : after.errors ≡ before.errors
 
 -- a text is gathered behind what is gathered, without a write
 pub record Gathered (before : Gathering) (text : List ℕ) (after : Gathering) : Type 0 where
   pub joined : gathered after ≡ gathered before ++ text
   pub flag : after.is_failed ≡ before.is_failed
+  pub errors : after.errors ≡ before.errors
 
 -- what an attempt to gather a text gave: the text is gathered, or nothing is altered
 pub record Tried (before : Gathering) (text : List ℕ) (after : Gathering) (r : Bool) : Type 0 where

@@ -51,9 +51,8 @@ pub fn begin_plain(out: &mut Output, style: Style, label: &[u8]) {
 
 // Ends a field.
 pub fn end(out: &mut Output, style: Style) {
-    match style {
-        Style::Line => {}
-        Style::Lines => say(out, b"\n"),
+    if let Style::Lines = style {
+        say(out, b"\n");
     }
 }
 
@@ -107,28 +106,22 @@ pub fn first(out: &mut Output, style: Style, label: &[u8], n: u64) {
 
 // A number that is no main field.
 pub fn detail(out: &mut Output, style: Style, label: &[u8], n: u64) {
-    match style {
-        Style::Line => {}
-        Style::Lines => {
-            say(out, label);
-            say(out, b": ");
-            grouped(out, n);
-            say(out, b"\n");
-        }
+    if let Style::Lines = style {
+        say(out, label);
+        say(out, b": ");
+        grouped(out, n);
+        say(out, b"\n");
     }
 }
 
 // Yes or no, that is no main field.
 pub fn flag(out: &mut Output, style: Style, label: &[u8], is_set: bool) {
-    match style {
-        Style::Line => {}
-        Style::Lines => {
-            say(out, label);
-            if is_set {
-                say(out, b": yes\n");
-            } else {
-                say(out, b": no\n");
-            }
+    if let Style::Lines = style {
+        say(out, label);
+        if is_set {
+            say(out, b": yes\n");
+        } else {
+            say(out, b": no\n");
         }
     }
 }

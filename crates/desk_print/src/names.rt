@@ -31,14 +31,10 @@ fn put_chars(out: &mut Output, s: &[u8])
 fn without_spaces(s: &[u8]) -> &[u8]
     ensures { result.now ≡ trimmed s.now }
 {
-    let mut rest = s;
-    while let [front @ .., last] = rest {
-        if *last != b' ' {
-            return rest;
-        }
-        rest = front;
+    match s.iter().rposition(|b| *b != b' ') {
+        Some(last) => &s[..=last],
+        None => &[],
     }
-    rest
 }
 
 // Puts a name in quotes, without the spaces at its end.

@@ -1,5 +1,5 @@
 // Standard output, gathered and written out in large pieces; error lines, each behind what was put before it.
-ghost use Rattle.std.specs.Prelude.{◌≡◌, [], ◌∷◌, ◌++◌};
+ghost use Rattle.std.specs.Prelude.{◌≡◌, [], ◌∷◌, ◌++◌, ◌≤◌, length};
 ghost use Rattle.desk_print.specs.Output.{Gathering, gathered, Sound, Fresh, Put, Failed, Tried, Flushed, Added};
 ghost use Rattle.desk_print.specs.Text.{path_of};
 
@@ -18,8 +18,9 @@ pub enum Stream {
     Stderr,
 }
 
-// The gathered bytes, whether a write has failed, and where error lines go. Contracts see the first two; beside them stands the system, whose
+// The gathered bytes, whether a write has failed, and where error lines go; beside them, which contracts do not see, stands the system, whose
 // standard output and standard error the bytes go to.
+// Kept with a flag beside the bytes: they are gathered in the same way behind a failure, so that an enum would hold them in both of its variants.
 #[derive(Drop)]
 pub struct Output {
     text: ArrayVec<u8, ROOM>,
@@ -31,12 +32,15 @@ pub struct Output {
 impl Model for Output {
     ghost Value = { Gathering };
 
-    ghost view = { λ o. record { text = o.text.items; is_failed = o.is_failed } };
+    ghost view = { λ o. record { text = o.text.items; is_failed = o.is_failed; errors = o.errors } };
+
+    ghost invariant = { λ o. length o.text.items ≤ 65535 };
 }
 
 // An output with nothing gathered; error lines go to an open file.
 pub fn new(rt: HostRuntime, errors: Stream) -> Output
-    ensures { Fresh result }
+    ensures fresh { Fresh result }
+    ensures errors { result.errors ≡ errors }
 {
     Output {
         text: ArrayVec::new(),

@@ -1,6 +1,6 @@
 // Words as keys: a number, or a name such as C#4.
 ghost use Rattle.std.specs.Prelude.{◌≡◌, ◌+◌, ◌*◌};
-ghost use Rattle.desk_text.specs.Keys.{capital, semitone, shift, octave, key_at, named_of, octave_part, name_of, within_keys, key_of};
+ghost use Rattle.desk_text.specs.Keys.{semitone, shift, octave, key_at, named_of, octave_part, name_of, within_keys, key_of};
 
 use super::spans::is_digit;
 use util::groups::at;
@@ -9,20 +9,12 @@ use util::limits::KEYS;
 // The semitones of the letters from A to G above C.
 const SEMITONES: [u8; 7] = [9, 11, 0, 2, 4, 5, 7];
 
-// A letter as a capital.
-#[tactic(auto, unfolding(crate::specs::Keys::capital))]
-fn capital_of(b: u8) -> u8
-    ensures { result ≡ capital b }
-{
-    if b'a' <= b { b - 32 } else { b }
-}
-
 // The semitones of a letter above C; nothing for a byte that is no letter of a name.
-#[tactic(auto, unfolding(crate::specs::Keys::semitone))]
+#[tactic(auto, unfolding(crate::specs::Keys::semitone, crate::specs::Keys::capital))]
 fn semitone_of(b: u8) -> Option<u64>
     ensures { result ≡ semitone b }
 {
-    let i = capital_of(b).checked_sub(b'A')?;
+    let i = b.to_ascii_uppercase().checked_sub(b'A')?;
     let n = SEMITONES.get(i as usize)?;
     Some(*n as u64)
 }

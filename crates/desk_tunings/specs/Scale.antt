@@ -37,6 +37,11 @@ unfoldable pub value_answer : Option ℕ → ValuesError → Values
 value_answer (Some v) e = Ok tt
 value_answer None e = Err e
 
+-- a value, where there is one, and what is wrong where there is none
+unfoldable pub value_or : Option ℕ → ValuesError → Result ℕ ValuesError
+value_or (Some v) e = Ok v
+value_or None e = Err e
+
 -- how putting a word's value at place n goes
 unfoldable pub word_answer : Option Decimals → ℕ → Values
 word_answer d n = value_answer (value_of d) (refused_as d (n + 1))

@@ -13,6 +13,7 @@ use util::limits::KEYS;
 const UNTOLD: u64 = u64::MAX;
 
 // What is wrong with lines: none sets a key, or one is wrong, and its number.
+// Kept as an enum of its own: that no line sets a key is an error too, where None would say that nothing is wrong.
 #[derive(Clone, Copy)]
 pub enum LinesError {
     NoLine,
@@ -63,6 +64,7 @@ fn put_lines(s: &[u8], entries: &mut [u64]) -> Result<u64, LinesError>
     let mut set: u64 = 0;
     let mut n: u64 = 0;
     let mut rest = lines::behind_mark(s);
+    // Kept as a loop: the end of a line may be two bytes, CR LF, where `split` of the library would find a line between them.
     while !rest.is_empty() {
         n += 1;
         let (line, behind) = lines::split_line(rest);
@@ -74,7 +76,7 @@ fn put_lines(s: &[u8], entries: &mut [u64]) -> Result<u64, LinesError>
 
 // The entry of a key in equal temperament.
 #[tactic(auto, unfolding(crate::specs::Keys::equal_entry))]
-fn equal(key: usize) -> u64
+fn tempered(key: usize) -> u64
     ensures { result ≡ equal_entry key }
 {
     if key < KEYS { key as u64 * 65536 } else { 0 }
@@ -85,7 +87,11 @@ fn equal(key: usize) -> u64
 fn filled(entry: u64, key: usize) -> u64
     ensures { result ≡ filled_entry entry key }
 {
-    if entry == UNTOLD { equal(key) } else { entry }
+    if entry == UNTOLD {
+        tempered(key)
+    } else {
+        entry
+    }
 }
 
 // Gives every key that no line has named its pitch of equal temperament.

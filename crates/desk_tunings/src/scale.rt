@@ -1,9 +1,9 @@
 // Twelve values in cents, C first.
-ghost use Rattle.std.specs.Prelude.{◌≡◌, true, false, ◌<◌, ◌≤◌, length, get_or};
+ghost use Rattle.std.specs.Prelude.{◌≡◌, true, false, ◌+◌, ◌<◌, ◌≤◌, length, get_or};
 ghost use Rattle.desk_text.specs.Cents.{cents_of};
 ghost use Rattle.desk_text.specs.Spans.{is_blank};
 ghost use Rattle.desk_text.specs.Lines.{begins_comment};
-ghost use Rattle.desk_tunings.specs.Scale.{value_of, word_answer, word_values, counted_as, words_of, read_values, is_whole_value, are_whole_values};
+ghost use Rattle.desk_tunings.specs.Scale.{value_of, value_or, refused_as, counted_as, words_of, read_values, is_whole_value, are_whole_values};
 
 use desk_text::cents::Decimals;
 use desk_text::{cents, fractions, lines};
@@ -45,22 +45,17 @@ fn value_in(d: Option<Decimals>) -> Option<u64>
     }
 }
 
-// Puts the value of a word at place n.
-#[tactic(auto, unfolding(crate::specs::Scale::word_answer, crate::specs::Scale::word_values, crate::specs::Scale::value_answer, crate::specs::Scale::put_value, crate::specs::Scale::refused_as, crate::specs::Scale::value_of))]
-fn put_word(word: &[u8], values: &mut [u64], n: usize) -> Result<(), ValuesError>
-    requires { n < length values.old }
-    ensures value { result ≡ word_answer (cents_of word.now) n }
-    ensures values_after { values.new ≡ word_values (cents_of word.now) n values.old }
+// The value of a word at place n.
+#[tactic(auto, unfolding(crate::specs::Scale::value_or, crate::specs::Scale::refused_as, crate::specs::Scale::value_of))]
+fn value_at(word: &[u8], n: usize) -> Result<u64, ValuesError>
+    requires { n < 18446744073709551615 }
+    ensures { result ≡ value_or (value_of (cents_of word.now)) (refused_as (cents_of word.now) (n + 1)) }
 {
     let d = cents::parse_cents(word);
     if d.is_none() {
         return Err(ValuesError::NoNumber(n as u64 + 1));
     }
-    let Some(v) = value_in(d) else {
-        return Err(ValuesError::Outside(n as u64 + 1));
-    };
-    values[n] = v;
-    Ok(())
+    value_in(d).ok_or(ValuesError::Outside(n as u64 + 1))
 }
 
 // Whether there are twelve values.
@@ -84,6 +79,7 @@ fn from_value(s: &[u8]) -> &[u8]
     ensures bound { length result.now ≤ length s.now }
 {
     let mut rest = lines::from_word(s);
+    // Kept as a loop: each turn goes on at the first word behind the comment before it, which no iterator yields.
     while let [b, ..] = rest {
         if !lines::is_comment(true, *b) {
             return rest;
@@ -99,12 +95,14 @@ pub fn read(s: &[u8], values: &mut [u64]) -> Result<(), ValuesError>
 {
     let mut n = 0;
     let mut rest = from_value(lines::behind_mark(s));
+    // Kept as a loop: each turn goes on at the first value behind the word before it, which no iterator yields.
     while !rest.is_empty() {
         if values.len() <= n {
             return Err(ValuesError::TooMany);
         }
         let (word, behind) = lines::split_word(rest);
-        put_word(word, values, n)?;
+        let value = value_at(word, n)?;
+        values[n] = value;
         n += 1;
         rest = from_value(behind);
     }

@@ -8,18 +8,19 @@ use mathlib.Core.List.{List, [], ◌∷◌}
 use Prim.Native.Nat.{ℕ, zero, suc, ◌+◌, ◌≤◌, ◌<◌}
 use native.Mathlib.Numerals.{add-one}
 use native.Mathlib.Omega.{arith}
-use lib.ListN.{length, drop, get_or, length-drop, drop_of_length-le}
+use lib.ListN.{length, drop, get_or, set, length-drop, drop_of_length-le}
 use lib.Dec.{eqb}
 use lib.Seq.{drop-cons}
-use Rattle.std.specs.Prelude.{Ok, Err}
+use Rattle.std.specs.Prelude.{Option, Some, None, Result, Ok, Err}
 use Rattle.util.specs.Pick.{pick}
 use Rattle.desk_text.specs.Spans.{is_line_end, is_blank, span}
 use Rattle.desk_text.specs.Lines.{begins_comment, word_of, from_word}
+use Rattle.desk_text.specs.declared.cents.Decimals.{Decimals}
 use Rattle.desk_text.specs.Cents.{cents_of}
 use Rattle.desk_text.proofs.Laws.Digits.{either}
 use Rattle.desk_tunings.specs.declared.scale.ValuesError.{ValuesError}
 use Rattle.desk_tunings.specs.declared.scale.ValuesError.TheVariants.{TooMany}
-use Rattle.desk_tunings.specs.Scale.{Values, word_answer, word_values, good_values, counted_as, words_within, words_of, read_words, is_whole_value, are_whole_values}
+use Rattle.desk_tunings.specs.Scale.{Values, value_of, value_or, refused_as, value_answer, put_value, word_answer, word_values, good_values, counted_as, words_within, words_of, read_words, is_whole_value, are_whole_values}
 
 words_enough : (n m : ℕ) (t : List ℕ) → length t ≤ n → length t ≤ m → words_within n t ≡ words_within m t
 unfolding words_within
@@ -137,3 +138,40 @@ module _ (vs : List ℕ) (i : ℕ) where
 
   pub whole_more : i < length vs → is_whole_value (get_or vs i 0) ≡ true → are_whole_values (drop (i + 1) vs) ≡ are_whole_values (drop i vs)
   whole_more h e = sym (whole_turn h ∙ rw e)
+
+abbrev is_value : Result ℕ ValuesError → ℕ
+is_value (Ok v) = 1
+is_value (Err e) = 0
+
+abbrev value_in : Result ℕ ValuesError → ℕ
+value_in (Ok v) = v
+value_in (Err e) = 0
+
+abbrev as_values : Result ℕ ValuesError → Values
+as_values (Ok v) = Ok tt
+as_values (Err e) = Err e
+
+value_put : (o : Option ℕ) (e : ValuesError) (v n : ℕ) (vs : List ℕ) → ◌≡◌ {A = Result ℕ ValuesError} (Ok v) (value_or o e)
+    → (◌≡◌ {A = Values} (Ok tt) (value_answer o e)) × (set vs n v ≡ put_value o n vs)
+unfolding value_or value_answer put_value
+value_put (Some x) e v n vs h = (refl, ap (λ (r : Result ℕ ValuesError). set vs n (value_in r)) h)
+value_put None e v n vs h = let z : ◌≡◌ {A = ℕ} 1 0 = ap is_value h in absurd (omega arith)
+
+none_put : (o : Option ℕ) (e x : ValuesError) (n : ℕ) (vs : List ℕ) → ◌≡◌ {A = Result ℕ ValuesError} (Err x) (value_or o e)
+    → (◌≡◌ {A = Values} (Err x) (value_answer o e)) × (vs ≡ put_value o n vs)
+unfolding value_or value_answer put_value
+none_put (Some v) e x n vs h = let z : ◌≡◌ {A = ℕ} 0 1 = ap is_value h in absurd (omega arith)
+none_put None e x n vs h = (ap as_values h, refl)
+
+module _ (d : Option Decimals) (n : ℕ) (vs : List ℕ) where
+  -- a value that a word has is put
+  pub put_good : (v : ℕ) → ◌≡◌ {A = Result ℕ ValuesError} (Ok v) (value_or (value_of d) (refused_as d (n + 1)))
+      → (◌≡◌ {A = Values} (Ok tt) (word_answer d n)) × (set vs n v ≡ word_values d n vs)
+  unfolding word_answer word_values
+  put_good v h = value_put (value_of d) (refused_as d (n + 1)) v n vs h
+
+  -- where a word has none, what is wrong is told, and nothing is put
+  pub put_wrong : (x : ValuesError) → ◌≡◌ {A = Result ℕ ValuesError} (Err x) (value_or (value_of d) (refused_as d (n + 1)))
+      → (◌≡◌ {A = Values} (Err x) (word_answer d n)) × (vs ≡ word_values d n vs)
+  unfolding word_answer word_values
+  put_wrong x h = none_put (value_of d) (refused_as d (n + 1)) x n vs h
