@@ -1,6 +1,11 @@
 // Op 2: a frame is read with lent space. Op 4: identity bytes are read.
 #![tactic(auto)]
 
+ghost use Rattle.std.specs.Prelude.{◌≡◌, ◌<◌, true, length, take, MatchResult};
+ghost use Rattle.replay_vectors.specs.declared.verdicts.Fault.TheVariants.{Malformed};
+ghost use Rattle.replay_vectors.specs.Verdicts.{FindsOnly};
+ghost use Rattle.replay_read.specs.Replays.{code, IsText, Answers, Reads, FrameCase, FrameRight, IdentityRight};
+
 use messages::file_reference::Kind;
 use messages::system_exclusive::{DeviceID, UniversalNonRealTimeMsg};
 use reader::lent::Reading;
@@ -18,7 +23,9 @@ const MOST: usize = 70000;
 const BEFORE: u8 = 0xA5;
 
 // Whether lent places begin with these bytes, and behind them are as they were.
-fn is_left(lent: &[u8], bytes: &[u8]) -> bool {
+fn is_left(lent: &[u8], bytes: &[u8]) -> bool
+    ensures { result ≡ true → take (length bytes.now) lent.now ≡ bytes.now }
+{
     match lent.split_at_checked(bytes.len()) {
         Some((front, rest)) => check::same(front, bytes) && rest.iter().all(|b| *b == BEFORE),
         None => false,
@@ -36,7 +43,9 @@ fn is_message(device: DeviceID, m: UniversalNonRealTimeMsg, few: usize, list: &[
 }
 
 // Whether the text and the lent space are the case's: file data in so many lent places, or a part of the frame and so many entries.
-fn is_text(case: Case, r: Reading, data: &[u8]) -> bool {
+fn is_text(case: Case, r: Reading, data: &[u8]) -> bool
+    ensures { result ≡ true → IsText case.entry r «data».now }
+{
     if number_at(case.out_numbers, 0) == 0x0702 {
         return r.places == case.bytes.len()
             && r.from == 0
@@ -50,7 +59,9 @@ fn is_text(case: Case, r: Reading, data: &[u8]) -> bool {
 }
 
 // Whether an answer is the case's, and the lent space too.
-fn is_answer(case: Case, answer: Result<Reading, Refusal>, data: &[u8], entries: &[u64]) -> bool {
+fn is_answer(case: Case, answer: Result<Reading, Refusal>, data: &[u8], entries: &[u64]) -> bool
+    ensures { result ≡ true → Answers answer case.entry «data».now }
+{
     if !are_left(entries, case.out_entries) {
         return false;
     }
@@ -63,13 +74,17 @@ fn is_answer(case: Case, answer: Result<Reading, Refusal>, data: &[u8], entries:
 }
 
 // Reads a frame for a kind with places lent for file data and for entries, and holds the answer to the case.
-fn is_read(case: Case, kind: Kind, data: &mut [u8], entries: &mut [u64]) -> bool {
+fn is_read(case: Case, kind: Kind, data: &mut [u8], entries: &mut [u64]) -> bool
+    ensures { result ≡ true → Reads case.entry kind «data».old «data».new entries.old entries.new }
+{
     let answer = reader::read(case.text, kind, data, entries);
     is_answer(case, answer, data, entries)
 }
 
 // Whether identity bytes are read as the case says: its numbers are those of the reply without head code and device.
-fn is_identity(case: Case) -> bool {
+fn is_identity(case: Case) -> bool
+    ensures { result ≡ true → IdentityRight case.entry }
+{
     match UniversalNonRealTimeMsg::from_midi(case.text) {
         Ok(reply) => {
             let m = UniversalNonRealTimeMsg::IdentityReply(reply);
@@ -80,7 +95,9 @@ fn is_identity(case: Case) -> bool {
 }
 
 // The kind of sound file that a number names: 0 bank, 1 WAV. Kept in two crates: in the one below them it would put that on messages.
-fn kind_of(n: u64) -> Result<Kind, Fault> {
+fn kind_of(n: u64) -> Result<Kind, Fault>
+    ensures { MatchResult result (λ k. n ≡ code k) (λ e. (e ≡ Malformed) × (1 < n)) }
+{
     match n {
         0 => Ok(Kind::Bank),
         1 => Ok(Kind::WAV),
@@ -89,7 +106,9 @@ fn kind_of(n: u64) -> Result<Kind, Fault> {
 }
 
 // Replays a case of op 2.
-pub fn replay_frame(case: Case) -> Result<(), Fault> {
+pub fn replay_frame(case: Case) -> Result<(), Fault>
+    ensures { FindsOnly result (FrameCase case.entry) (FrameRight case.entry) }
+{
     if case.numbers.len() != 3 {
         return Err(Fault::Malformed);
     }
@@ -108,6 +127,8 @@ pub fn replay_frame(case: Case) -> Result<(), Fault> {
 }
 
 // Replays a case of op 4.
-pub fn replay_identity(case: Case) -> Result<(), Fault> {
+pub fn replay_identity(case: Case) -> Result<(), Fault>
+    ensures { FindsOnly result (Unit {0}) (IdentityRight case.entry) }
+{
     judged(is_identity(case))
 }

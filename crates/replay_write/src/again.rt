@@ -5,43 +5,17 @@ use util::bytes::sub_slice;
 use util::limits::KEYS;
 use util::refusal::Refusal;
 
-// Why a frame is not written again alike: it is refused, or other bytes are written.
-#[derive(Clone, Copy, Debug, PartialEq, Eq)]
-pub enum Unlike {
-    Refused(Refusal),
-    Other,
-}
-
-impl From<Refusal> for Unlike {
-    fn from(r: Refusal) -> Unlike {
-        Unlike::Refused(r)
-    }
-}
-
-// The number of an answer, as cases have it: 0 where the bytes are the same, or that of a refusal. No refusal has the number of other bytes.
-pub fn number_of(answer: Result<(), Unlike>) -> u8 {
-    match answer {
-        Ok(()) => 0,
-        Err(Unlike::Refused(r)) => r.number(),
-        Err(Unlike::Other) => 255,
-    }
-}
-
-// Writes a message, and holds the bytes to those of the frame.
+// Writes a message: whether that gives the bytes of the frame.
 fn written(
     frame: &[u8],
     device: DeviceID,
     m: UniversalNonRealTimeMsg,
     text: &[u8],
     entries: &[u64],
-) -> Result<(), Unlike> {
+) -> Result<bool, Refusal> {
     let mut out = [0u8; 4096];
     let n = writer::write(device, m, text, entries, &mut out, 0)?;
-    if check::same(sub_slice(&out, 0, n), frame) {
-        Ok(())
-    } else {
-        Err(Unlike::Other)
-    }
+    Ok(check::same(sub_slice(&out, 0, n), frame))
 }
 
 // Whether the head of a frame is 07 02, whose text is file data.
@@ -49,13 +23,13 @@ fn has_data(frame: &[u8]) -> bool {
     matches!(frame, [_, _, _, 0x07, 0x02, ..])
 }
 
-// Reads a frame and writes its message again.
-pub fn answer(frame: &[u8], kind: Kind) -> Result<(), Unlike> {
+// Reads a frame and writes its message again: whether that gives the same bytes.
+pub fn is_same(frame: &[u8], kind: Kind) -> Result<bool, Refusal> {
     let mut data = [0u8; KEYS];
     let mut entries = [0u64; KEYS];
     let r = reader::read(frame, kind, &mut data, &mut entries)?;
     if KEYS < r.places {
-        return Err(Unlike::Other);
+        return Ok(false);
     }
     let text = if has_data(frame) {
         &data[..r.places]
