@@ -44,7 +44,7 @@ pub enum Head {
 }
 
 impl Head {
-    // How many bytes stand for the head in a frame. Kept as a match: it is a rule of two rows, not a table of numbers.
+    // How many bytes stand for the head in a frame. Kept as a match: it is a rule of two answers, not a table of numbers.
     pub fn size(self) -> usize
         ensures { result ≡ length (code self) }
     {

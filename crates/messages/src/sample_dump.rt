@@ -161,7 +161,7 @@ impl TryFrom<u8> for ExtendedLoopType {
 }
 
 // The number of a loop; all loops are 16,383.
-// Kept as a named function: From would be no plainer, since two variants have one number.
+// Kept as a named function: From would not say which number, as all loops are 16,383 in a frame and 65,536 among the numbers of C.
 pub fn loop_value(i: LoopNumber) -> u64
     ensures { result ≡ loop_value i }
 {
