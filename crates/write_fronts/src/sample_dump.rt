@@ -1,4 +1,5 @@
 // The fronts of sample dumps.
+// Kept as one function for each front: fronts differ in their bytes, and each is one array.
 ghost use Rattle.std.specs.Prelude.{◌≡◌, ◌∷◌, [], ◌≤◌, length};
 ghost use Rattle.util.specs.Splice.{overwritten};
 ghost use Rattle.messages.specs.Fields.{loop_value};

@@ -21,7 +21,7 @@ fn entry_of(added: SoundFileMap) -> u64
 }
 
 // Writes the frame of a file reference whose bank maps are the first n entries at a place of the output.
-// Kept as an array and a number: the entries that are made of records need memory of a fixed size.
+// Kept as an array and a number: what is made of records stands in memory of a fixed size, of which the first n are written.
 fn write_entries(
     device: DeviceID,
     m: FileReferenceMsg,

@@ -152,7 +152,7 @@ impl<'a> Admitted<'a> {
 }
 
 // The length of a message's frame, before anything is written, or the refusal of its contents.
-// Kept as a match, as the answer to a refusal has a line of its own.
+// Kept as a match, since the must-fail edit of a refused length stands on the line of the refusal.
 pub fn frame_length(
     device: DeviceID,
     m: UniversalNonRealTimeMsg,

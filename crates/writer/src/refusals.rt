@@ -33,48 +33,39 @@ fn is_seven_type(t: FileType) -> bool
     bytes::is_seven(&type_letters(t))
 }
 
+// A refusal, unless a test passes.
+fn unless(r: Refusal, passes: bool) -> Result<(), Refusal>
+    ensures { result ≡ told (unless r passes) }
+{
+    if passes { Ok(()) } else { Err(r) }
+}
+
 // HIGH where a text has a byte above 127.
 fn refused_high(text: &[u8]) -> Result<(), Refusal>
     ensures { result ≡ told (high text.now) }
 {
-    if bytes::is_seven(text) {
-        Ok(())
-    } else {
-        Err(Refusal::High)
-    }
+    unless(Refusal::High, bytes::is_seven(text))
 }
 
 // HIGH where a URL has a byte above 127 or a 00.
 fn refused_url(url: &[u8]) -> Result<(), Refusal>
     ensures { result ≡ told (high_url url.now) }
 {
-    if is_text(url) {
-        Ok(())
-    } else {
-        Err(Refusal::High)
-    }
+    unless(Refusal::High, is_text(url))
 }
 
 // LONG where there are more than so many.
 fn refused_long(n: usize, most: usize) -> Result<(), Refusal>
     ensures { result ≡ told (unless Long (leb n most)) }
 {
-    if n <= most {
-        Ok(())
-    } else {
-        Err(Refusal::Long)
-    }
+    unless(Refusal::Long, n <= most)
 }
 
 // VALUE where a number does not fit four groups.
 fn refused_value(v: u32) -> Result<(), Refusal>
     ensures { result ≡ told (too_large v) }
 {
-    if v < 268435456 {
-        Ok(())
-    } else {
-        Err(Refusal::Value)
-    }
+    unless(Refusal::Value, v < 268435456)
 }
 
 // VALUE where one of the two numbers of a rate does not fit four groups.
@@ -90,7 +81,7 @@ fn refused_maker(id: ManufacturerID) -> Result<(), Refusal>
     ensures { result ≡ told (zero_maker id) }
 {
     match id {
-        ManufacturerID::OneByte(b) => { if 1 <= b { Ok(()) } else { Err(Refusal::Value) } }
+        ManufacturerID::OneByte(b) => unless(Refusal::Value, 1 <= b),
         ManufacturerID::Extended(_, _) => Ok(()),
     }
 }
@@ -150,11 +141,7 @@ fn refused_header(t: FileType, length: u32, name: &[u8]) -> Result<(), Refusal>
 fn refused_type(t: FileType) -> Result<(), Refusal>
     ensures { result ≡ told (high (type_bytes t)) }
 {
-    if is_seven_type(t) {
-        Ok(())
-    } else {
-        Err(Refusal::High)
-    }
+    unless(Refusal::High, is_seven_type(t))
 }
 
 // The refusal of a file request: HIGH of the type or the name, LONG.
