@@ -1,4 +1,5 @@
 // Reads the fields of file dumps, and the data of a file packet into lent places.
+// Kept as one function for each head: each is a row of the layouts, which its clause names.
 #![tactic(auto)]
 
 pub mod fields;

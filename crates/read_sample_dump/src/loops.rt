@@ -7,6 +7,7 @@ use messages::sample_dump::{ExtendedLoopType, LoopNumber, LoopType};
 use util::limits::ALL_LOOPS;
 
 // The loop type of byte b.
+// Kept as a pair: the two enums are midi-msg's, and each is one line.
 pub fn loop_type(b: u8) -> Option<LoopType>
     ensures { Names loop_code b result }
 {

@@ -86,7 +86,7 @@ fn is_zero(f: &Fields) -> bool
     f.len() == 1 && f.at(0) == 0
 }
 
-// Kept as functions of their own, `eof` to `ack`: each is one expression, and one over the message would leave its constant and its proof to the table of heads.
+// Kept as functions of their own, `eof` to `ack`: each is one expression whose clause names its row.
 // The fields of 7B: 00.
 pub fn eof(f: &Fields) -> Option<Found>
     ensures { Reads head.EOF result f.now }
