@@ -187,6 +187,7 @@ fn stretch_from(stream: &[u8], at: usize) -> Option<(usize, usize)>
 }
 
 // Puts the pairs of the frames, as far as the index has room, and counts the frames.
+// Kept as a loop over what is found, one stretch a turn: it counts frames, and no place by hand.
 fn list(stream: &[u8], kind: Kind, index: &mut [u32]) -> usize
     requires { length stream.now ≤ most_stream }
     ensures counted { result ≡ length (frames kind stream.now) }
