@@ -21,6 +21,7 @@ pub mod tuning;
 pub mod values;
 
 // Puts a message for the number d of a device.
+// Kept as a match over the messages: each arm puts the fields of its own.
 fn put_message(out: &mut [u64], d: u64, m: UniversalNonRealTimeMsg) -> usize
     ensures { Put (numbers d (coded m)) out.old out.new result }
 {

@@ -4,6 +4,7 @@ ghost use Rattle.util.specs.Splice.{overwritten};
 ghost use Rattle.numbers_of_message.specs.Put.{Put};
 
 // Writes the numbers of another slice.
+// Kept beside util's copy of bytes: its body is one call of the library.
 fn copy(out: &mut [u64], s: &[u64])
     requires { length s.now ≤ length out.old }
     ensures { out.new ≡ overwritten s.now out.old }

@@ -35,7 +35,7 @@ pub fn put_change(out: &mut [u64], d: u64, bank: Option<u8>, program: u8) -> usi
     put(out, &[0x0807, d, bank_number(bank), program as u64])
 }
 
-// Kept as pairs, of one byte and of two: they differ in the type of a value or of a message, and each is one line.
+// Kept as pairs, of one byte and of two: they differ in the type of the message, which midi-msg has twice; a trait of both would have an item for each field.
 
 // The twelve values of one byte.
 fn scale_1(s: [i8; 12]) -> [u64; 12]

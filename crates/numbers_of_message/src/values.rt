@@ -26,6 +26,7 @@ pub fn bank_number(bank: Option<u8>) -> u64
 }
 
 // A loop: all are 65,536.
+// Kept beside `loop_value` of messages: all loops have another number in a frame.
 pub fn loop_index(i: LoopNumber) -> u64
     ensures { result ≡ loop_index_of i }
 {

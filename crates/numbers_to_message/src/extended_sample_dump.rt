@@ -147,6 +147,7 @@ fn extended_points_request(v: &[u64]) -> Answer
 }
 
 // The message of a head code that starts with 05, and whether the numbers fit it.
+// Kept as a match over head codes: it is the table of 01, which a table of functions would only search.
 pub fn answer(v: &[u64], code: u64) -> Answer
     ensures { result ≡ answer (find code extended_rows []) v.now }
 {

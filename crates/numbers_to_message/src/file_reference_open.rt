@@ -1,4 +1,5 @@
 // Opens of a file reference with a select.
+// Kept as one function for each row: rows differ in the message that they make and in the types of its numbers.
 ghost use Rattle.std.specs.Prelude.{◌≡◌, [], get_or};
 ghost use Rattle.numbers_to_message.specs.Rows.{open_select_list, open_select_offset, open_select_wav, open_select_both, opened};
 ghost use Rattle.numbers_to_message.specs.declared.fit.NumberType.TheVariants as type;

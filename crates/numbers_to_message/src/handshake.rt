@@ -1,4 +1,5 @@
 // Handshakes.
+// Kept as one function for each row: rows differ in the message that they make and in the types of its numbers.
 ghost use Rattle.std.specs.Prelude.{◌≡◌, []};
 ghost use Rattle.numbers_to_message.specs.Rows.{nak, ack};
 ghost use Rattle.numbers_to_message.specs.Table.{find, one, handshake_rows};

@@ -24,6 +24,7 @@ pub mod tuning;
 pub mod values;
 
 // The message of a head code, by its first byte, and whether the numbers fit it.
+// Kept as a match over head codes: it is the table of 01, which a table of functions would only search.
 fn answer(v: &[u64], code: u64) -> Answer
     ensures { result ≡ answer (rows_of code) v.now }
 {

@@ -76,6 +76,7 @@ pub fn bank_of(x: u64) -> Option<Option<u8>>
 }
 
 // A loop type.
+// Kept as a pair with the next: the two enums are midi-msg's, and each is one line.
 pub fn loop_type_of(x: u64) -> Option<LoopType>
     ensures { result ≡ option_of (value type.LoopType x) }
 {

@@ -184,6 +184,7 @@ fn scale_tuning_2(v: &[u64]) -> Answer
 }
 
 // The tuning message of a head code, and whether the numbers fit it.
+// Kept as a match over head codes: it is the table of 01, which a table of functions would only search.
 pub fn answer(v: &[u64], code: u64) -> Answer
     ensures { result ≡ answer (find code tuning_rows []) v.now }
 {

@@ -1,5 +1,5 @@
 // The values of numbers by place. A number that does not fit has a value all the same; it is tested before.
-// Kept as v and i side by side: a slice and a place in it.
+// Kept as v and i side by side, a slice and a place in it: a struct of both would be made for each number.
 ghost use Rattle.std.specs.Prelude.{◌≡◌, get_or};
 ghost use Rattle.numbers_to_message.specs.Values.{loop_value, or_else};
 ghost use Rattle.numbers_to_message.specs.Fits.{taken};

@@ -76,6 +76,7 @@ fn write_header(
 }
 
 // Writes a sample dump packet.
+// Kept beside the handshakes: a packet has a text, and another head.
 fn write_packet(
     numbers: &[u64],
     text: &[u8],

@@ -48,6 +48,7 @@ fn put_header(
 }
 
 // Writes the frame of a sample dump header at a place of the output.
+// Kept as one function for each frame: it tests the room and puts the frame, and a closure for the second would take as many parameters.
 pub fn write_header(
     device: DeviceID,
     sample: u16,
