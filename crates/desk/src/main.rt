@@ -41,6 +41,7 @@ fn push_argument(rt: HostRuntime, i: usize, words: &mut Words) -> Result<bool, E
 }
 
 // Puts all arguments as words.
+// Kept as a count up to a number that no run reaches, since nothing says that the arguments end.
 fn push_arguments(rt: HostRuntime, words: &mut Words) -> Result<(), Excess> {
     for i in 1..usize::MAX {
         if !push_argument(rt, i, words)? {

@@ -71,6 +71,7 @@ fn kind_named(text: &[u8]) -> Option<Kind> {
 }
 
 // The kind of a word in the place of one; a line that says so where it is none.
+// Kept as a pair with the next: they differ in the reading and the words, and a function of both would take two closures.
 fn kind_of(out: &mut Output, text: &[u8]) -> Option<Kind> {
     let kind = kind_named(text);
     if kind.is_none() {

@@ -25,6 +25,7 @@ pub struct Piece {
 }
 
 // What is read: standard input, an open file, or nothing, where each read fails.
+// Kept as one enum: an Option of an enum of two would be matched twice for each read.
 #[derive(Drop)]
 pub enum Source {
     Nothing,
@@ -76,7 +77,7 @@ pub fn read_all(source: &mut Source, room: &mut [u8]) -> Result<usize, ErrorKind
     ensures { IfOk result (λ n. n ≤ length room.old) }
 {
     let mut n = 0;
-    // Kept as a loop: each turn goes on behind as many bytes as the read before it gave, which no iterator yields.
+    // Kept as a loop: each turn goes on behind as many bytes as the read before it gave, which `from_fn` would do in a closure, no plainer.
     while n < room.len() {
         let count = read_once(source, &mut room[n..])?;
         if is_end(count) {
@@ -150,7 +151,7 @@ pub fn close(_source: Source) {}
 // Reads so many bytes of the file and drops them; whether there are as many.
 fn pass(source: &mut Source, room: &mut [u8], count: u64) -> bool {
     let mut left = count;
-    // Kept as a loop: each turn drops no more than the reads before it left, which no iterator yields.
+    // Kept as a loop: each turn drops no more than the reads before it left, which `from_fn` would do in a closure, no plainer.
     while 0 < left {
         match read_some(source, room, left) {
             Ok(count) if 0 < count => left -= count as u64,

@@ -36,6 +36,7 @@ fn file_name(out: &mut Output, style: Style, t: FileType, name: &[u8]) {
 }
 
 // The device at the other end of a dump.
+// Kept beside the fields of desk_print: begin, put, end are three calls.
 fn other_device(out: &mut Output, style: Style, label: &[u8], d: DeviceID) {
     fields::begin(out, style, label);
     system::put_device(out, d);

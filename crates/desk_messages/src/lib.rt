@@ -1,5 +1,5 @@
 // What a message is, in words: in one line, or every field a line.
-// Kept as two parameters: an output and a style. Half of the calls below take the output alone, which a struct of both would have to lend on.
+// Kept as two parameters: an output and a style. Lists, names and marks take the output alone, which a struct of both would have to lend on.
 #![tactic(auto)]
 
 pub mod files;

@@ -118,6 +118,7 @@ pub fn data(out: &mut Output, s: &[u8]) {
 }
 
 // A signed value of one group.
+// Kept as a pair: midi-msg has the two types, and each is one line.
 fn signed_1(v: i8) -> Signed
     ensures { result.amount ≤ 255 }
 {

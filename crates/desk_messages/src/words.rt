@@ -12,7 +12,7 @@ pub trait Words {
 }
 
 // General MIDI, turned on or off.
-// Kept as a table for each type: the types are midi-msg's, and no variant of one is a variant of another.
+// Kept as a table for each type: the types are midi-msg's. Display would be no plainer: it answers a Result, and what is put cannot fail.
 impl Words for GeneralMidi {
     fn words(self) -> &'static [u8] {
         match self {

@@ -7,7 +7,7 @@ use super::output::Output;
 use super::{four, number, put};
 
 // A signed amount: below zero or not, and how much.
-// Kept as a flag beside a number: an enum of both signs would be matched where the amount alone is divided, put or compared.
+// Kept as a flag beside a number: an enum of both signs, as `Decimals` of desk_text is, would be matched where the amount alone is divided or put.
 #[derive(Clone, Copy)]
 pub struct Signed {
     pub is_below: bool,

@@ -57,6 +57,7 @@ pub fn end(out: &mut Output, style: Style) {
 }
 
 // A number that is named in a line too.
+// Kept as one function for each field, this and those below: begin, put, end are three calls, and a closure for the second would be no fewer.
 pub fn named(out: &mut Output, style: Style, label: &[u8], n: u64) {
     begin(out, style, label);
     grouped(out, n);

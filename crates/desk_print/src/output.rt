@@ -122,6 +122,7 @@ fn gather(out: &mut Output, text: &[u8]) -> bool
 }
 
 // Writes out bytes that are too many to be gathered.
+// Kept beside `write_out`: what the contract of each says of the bytes is another thing.
 fn send(out: &mut Output, text: &[u8])
     requires { gathered out.old ≡ [] }
     ensures { Put out.old text.now out.new }

@@ -51,7 +51,7 @@ fn line_end(s: &[u8], from: usize) -> usize
 // Runs all lines, which each have a line end.
 fn run_lines(out: &mut Output, s: &[u8]) {
     let mut at = 0;
-    // Kept as a loop: a piece of `split` has no place, and that a line ends within the text behind its start is what `line_end` promises.
+    // Kept as a loop: the must-fail edit of a line's start is of the place of a line, which a piece of `split_inclusive` has not.
     while at < s.len() {
         let end = line_end(s, at);
         run_line(out, &s[at..end]);
@@ -64,7 +64,7 @@ fn read_full(source: &mut Source, room: &mut [u8]) -> usize
     ensures { result ≤ length room.old }
 {
     let mut n = 0;
-    // Kept as a loop: each turn goes on behind as many bytes as the read before it gave, which no iterator yields.
+    // Kept as a loop: each turn goes on behind as many bytes as the read before it gave, which `from_fn` would do in a closure, no plainer.
     while n < room.len() {
         match pieces::read_once(source, &mut room[n..]) {
             Ok(0) | Err(_) => break,

@@ -10,6 +10,7 @@ use util::limits::KEYS;
 const HIGHEST: u64 = 2097150;
 
 // The 16,384ths of a semitone nearest to ten trillionths of a cent.
+// Kept as a pair, one line each: a constant of a half and a step would be their parameters.
 fn nearest_16384(amount: u64) -> u64
     requires { amount ≤ most }
     ensures { result ≡ nearest step_16384 amount }

@@ -1,4 +1,6 @@
 // What is wrong with the lines of a tuning, the values of a scale, and the words of a command, told in error lines.
+ghost use Rattle.desk_print.specs.Output.{Flushed};
+
 use super::keys::LinesError;
 use super::said::LineError;
 use super::scale::ValuesError;
@@ -7,7 +9,9 @@ use util::bytes::is_seven;
 use util::limits::LARGEST_U7;
 
 // What error lines call a value.
-fn complain_value(out: &mut Output, n: u64, why: &[u8]) {
+fn complain_value(out: &mut Output, n: u64, why: &[u8])
+    ensures { Flushed out.old out.new }
+{
     complain_number(out, b"standard input", b"value ", n, why);
 }
 
@@ -27,7 +31,9 @@ fn why(e: LineError) -> &'static [u8] {
 }
 
 // Says what is wrong with the lines of a tuning.
-pub fn complain_lines(out: &mut Output, e: LinesError) {
+pub fn complain_lines(out: &mut Output, e: LinesError)
+    ensures { Flushed out.old out.new }
+{
     match e {
         LinesError::NoLine => complain(
             out,
@@ -39,7 +45,9 @@ pub fn complain_lines(out: &mut Output, e: LinesError) {
 }
 
 // Says what is wrong with the values of a scale.
-pub fn complain_values(out: &mut Output, e: ValuesError) {
+pub fn complain_values(out: &mut Output, e: ValuesError)
+    ensures { Flushed out.old out.new }
+{
     match e {
         ValuesError::NoValue => complain(
             out,

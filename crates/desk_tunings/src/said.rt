@@ -17,6 +17,7 @@ pub enum LineError {
 }
 
 // Whether a word is the one that says no tuning.
+// Kept beside that of desk_io, which is of a file's name: one line, of another meaning.
 #[tactic(auto, unfolding(crate::specs::Lines::is_no_tuning))]
 fn is_dash(s: &[u8]) -> bool
     ensures { result ≡ is_no_tuning s.now }

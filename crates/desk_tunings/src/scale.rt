@@ -79,7 +79,7 @@ fn from_value(s: &[u8]) -> &[u8]
     ensures bound { length result.now ≤ length s.now }
 {
     let mut rest = lines::from_word(s);
-    // Kept as a loop: each turn goes on at the first word behind the comment before it, which no iterator yields.
+    // Kept as a loop: each turn goes on at the first word behind the comment before it, which `from_fn` would do in a closure, no plainer.
     while let [b, ..] = rest {
         if !lines::is_comment(true, *b) {
             return rest;
@@ -95,7 +95,7 @@ pub fn read(s: &[u8], values: &mut [u64]) -> Result<(), ValuesError>
 {
     let mut n = 0;
     let mut rest = from_value(lines::behind_mark(s));
-    // Kept as a loop: each turn goes on at the first value behind the word before it, which no iterator yields.
+    // Kept as a loop: each turn goes on at the first value behind the word before it, which `from_fn` would do in a closure, no plainer.
     while !rest.is_empty() {
         if values.len() <= n {
             return Err(ValuesError::TooMany);
