@@ -36,6 +36,7 @@ fn replay_argument(rt: HostRuntime, i: usize, room: &mut [u8], t: &mut Tally) ->
 }
 
 // Replays the files of all arguments.
+// Kept as a count up to a number that no run reaches, since nothing says that the arguments end.
 fn replay_all(rt: HostRuntime, room: &mut [u8]) -> Tally {
     let mut t = Tally::default();
     for i in 1..usize::MAX {

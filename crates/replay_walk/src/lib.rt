@@ -45,7 +45,7 @@ fn is_walked(case: Case, kind: Kind, index: &mut [u32]) -> bool
     is_answer(walk::walk(case.text, kind, index), case) && are_left(index, case.out_entries)
 }
 
-// The kind of sound file that a number names: 0 bank, 1 WAV. Kept in two crates: in the one below them it would put that on messages.
+// The kind of sound file that a number names: 0 bank, 1 WAV. Kept in two crates: replay_vectors, which both use, would need messages for it.
 fn kind_of(n: u64) -> Result<Kind, Fault>
     ensures { MatchResult result (λ k. n ≡ code k) (λ e. (e ≡ Malformed) × (1 < n)) }
 {

@@ -7,7 +7,8 @@ use messages::file_reference::Kind;
 use replay_vectors::cases::Case;
 use replay_vectors::numbers::number;
 
-// The number of a stretch in a case, kept as a number, since the case has one: 0 where it is written again with the same bytes, or that of its refusal. No refusal has the number of other
+// Kept as a number: the case has one.
+// The number of a stretch in a case: 0 where it is written again with the same bytes, or that of its refusal. No refusal has the number of other
 // bytes.
 fn number_of(stretch: &[u8]) -> u8 {
     match again::is_same(stretch, Kind::Bank) {
