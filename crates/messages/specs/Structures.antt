@@ -1,5 +1,5 @@
 -- The fields of tunings and identity replies, and the loop types.
-use Rattle.std.specs.Prelude.{◌≡◌, refl, Option, Some, Result, Ok, Err, List, [], ◌∷◌, ℕ, ◌<◌, ℤ, pos, leb, length, get_or}
+use Rattle.std.specs.Prelude.{◌≡◌, refl, Option, Some, None, List, [], ◌∷◌, ℕ, ◌<◌, ℤ, pos, leb, length, get_or}
 use Rattle.std.proofs.Math.Option.{none}
 use Rattle.std.proofs.Common.{arith, lit<, le-leb}
 use Rattle.util.specs.Options.{unless}
@@ -91,9 +91,9 @@ identity_reply =
     }
 
 -- the value whose code is the byte b; or b is the code of none
-abbrev pub Named : {A : Type 0} → (A → List ℕ) → ℕ → Result A (Unit {0}) → Type 0
-Named code b (Ok t) = code t ≡ b ∷ []
-Named {A} code b (Err e) = (t : A) → code t ≡ b ∷ [] → ⊥
+abbrev pub Named : {A : Type 0} → (A → List ℕ) → ℕ → Option A → Type 0
+Named code b (Some t) = code t ≡ b ∷ []
+Named {A} code b None = (t : A) → code t ≡ b ∷ [] → ⊥
 
 -- "loop type 00, 01, 7F"
 abbrev pub loop_code : LoopType → List ℕ

@@ -1,7 +1,7 @@
 // File dumps. Names and file data are lent beside these as text.
 ghost use Rattle.std.specs.Prelude.{◌≡◌, ◌%◌};
 ghost use Rattle.messages.specs.declared.file_dump.FileDumpMsg.TheVariants.{Packet};
-ghost use Rattle.messages.specs.Fields.{type_bytes};
+ghost use Rattle.messages.specs.Fields.{type_bytes, type_of, four};
 ghost use Rattle.messages.specs.MessageOf.{head_file};
 
 use super::head::Head;
@@ -18,18 +18,37 @@ pub enum FileType {
     Custom([u8; 4]),
 }
 
-// The four letters of a file type.
-pub fn type_letters(t: FileType) -> [u8; 4]
-    ensures { result ≡ type_bytes t }
-{
-    match t {
-        FileType::MIDI => *b"MIDI",
-        FileType::MIEX => *b"MIEX",
-        FileType::ESEQ => *b"ESEQ",
-        FileType::TEXT => *b"TEXT",
-        FileType::BIN => *b"BIN ",
-        FileType::MAC => *b"MAC ",
-        FileType::Custom(letters) => letters,
+impl From<FileType> for [u8; 4] {
+    ghost from_gives = { λ t l. l ≡ type_bytes t };
+
+    // The four letters of a file type.
+    fn from(t: FileType) -> [u8; 4] {
+        match t {
+            FileType::MIDI => *b"MIDI",
+            FileType::MIEX => *b"MIEX",
+            FileType::ESEQ => *b"ESEQ",
+            FileType::TEXT => *b"TEXT",
+            FileType::BIN => *b"BIN ",
+            FileType::MAC => *b"MAC ",
+            FileType::Custom(letters) => letters,
+        }
+    }
+}
+
+impl From<[u8; 4]> for FileType {
+    ghost from_gives = { λ l t. t ≡ type_of (four l) };
+
+    // The file type that four letters spell.
+    fn from(letters: [u8; 4]) -> FileType {
+        match &letters {
+            b"MIDI" => FileType::MIDI,
+            b"MIEX" => FileType::MIEX,
+            b"ESEQ" => FileType::ESEQ,
+            b"TEXT" => FileType::TEXT,
+            b"BIN " => FileType::BIN,
+            b"MAC " => FileType::MAC,
+            _ => FileType::Custom(letters),
+        }
     }
 }
 

@@ -21,14 +21,16 @@ pub enum FileReferenceType {
     WAV,
 }
 
-// The four letters of a file reference type.
-pub fn reference_letters(t: FileReferenceType) -> [u8; 4]
-    ensures { result ≡ reference_code t }
-{
-    match t {
-        FileReferenceType::DLS => *b"DLS ",
-        FileReferenceType::SF2 => *b"SF2 ",
-        FileReferenceType::WAV => *b"WAV ",
+impl From<FileReferenceType> for [u8; 4] {
+    ghost from_gives = { λ t l. l ≡ reference_code t };
+
+    // The four letters of a file reference type.
+    fn from(t: FileReferenceType) -> [u8; 4] {
+        match t {
+            FileReferenceType::DLS => *b"DLS ",
+            FileReferenceType::SF2 => *b"SF2 ",
+            FileReferenceType::WAV => *b"WAV ",
+        }
     }
 }
 
@@ -122,6 +124,7 @@ impl WAVMap {
     pub const VOLUME: u8 = 0x7F;
 }
 
+// Kept as a default for each map: the two differ in their fields and values.
 impl Default for WAVMap {
     ghost is_default = { λ m. m ≡ default_wav_map };
 

@@ -1,5 +1,6 @@
 // Sample dumps and extended sample dumps (CA-019). Sample bytes and names are lent beside these.
 ghost use Rattle.std.specs.Prelude.{◌≡◌, ◌%◌};
+ghost use Rattle.std.specs.Result.{result_ok};
 ghost use Rattle.messages.specs.declared.sample_dump.SampleDumpMsg.TheVariants.{Packet};
 ghost use Rattle.messages.specs.Fields.{loop_value};
 ghost use Rattle.messages.specs.Structures.{loop_code, loop_byte, extended_loop_code, extended_loop_byte, Named};
@@ -115,7 +116,7 @@ impl From<LoopType> for u8 {
 impl TryFrom<u8> for LoopType {
     type Error = ();
 
-    ghost try_from_gives = { λ b r. Named loop_code b r };
+    ghost try_from_gives = { λ b r. Named loop_code b (result_ok r) };
 
     // The loop type of a byte.
     fn try_from(b: u8) -> Result<LoopType, ()> {
@@ -140,7 +141,7 @@ impl From<ExtendedLoopType> for u8 {
 impl TryFrom<u8> for ExtendedLoopType {
     type Error = ();
 
-    ghost try_from_gives = { λ b r. Named extended_loop_code b r };
+    ghost try_from_gives = { λ b r. Named extended_loop_code b (result_ok r) };
 
     // The extended loop type of a byte.
     fn try_from(b: u8) -> Result<ExtendedLoopType, ()> {
@@ -174,6 +175,7 @@ pub fn loop_value(i: LoopNumber) -> u64
 
 impl SampleDumpMsg {
     // The head of the message.
+    // Kept as a match for each enum of messages: they differ in every name.
     pub fn head(self) -> Head
         ensures { result ≡ head_sample self }
     {
@@ -199,6 +201,7 @@ impl SampleDumpMsg {
 
 impl ExtendedSampleDumpMsg {
     // The head of the message.
+    // Kept as a match for each enum of messages: they differ in every name.
     pub fn head(self) -> Head
         ensures { result ≡ head_extended self }
     {

@@ -1,6 +1,6 @@
 -- A value is representable where its number says it.
 -- Assumes nothing.
-use mathlib.Core.Path.{◌≡◌, refl, sym, ap}
+use mathlib.Core.Path.{◌≡◌, refl, sym, ap, ◌∙◌}
 use mathlib.Core.Bool.{Bool, true, false}
 use mathlib.Core.List.{List, [], ◌∷◌}
 use mathlib.Core.Option.{Option, none, some}
@@ -11,6 +11,7 @@ use lib.IntN.{ℤ, pos, negsuc}
 use borrow.Author.Tests.{ltb-true, ltb-false}
 use Rattle.util.specs.Pick.{pick}
 use Rattle.util.specs.Options.{map_option}
+use Rattle.util.proofs.Laws.Options.{some_none}
 use Rattle.numbers_to_message.specs.declared.fit.NumberType.{NumberType}
 use Rattle.numbers_to_message.specs.declared.fit.NumberType.TheVariants as type
 use Rattle.numbers_to_message.specs.Values.{Value, value, numbered, or_else, spelled, file_number_of, signed_number_of}
@@ -21,6 +22,7 @@ use lib.ListN.{length, get_or}
 use Rattle.messages.specs.declared.sample_dump.LoopNumber.TheVariants.{Loop, RequestAll, DeleteAll}
 use Rattle.messages.specs.declared.file_dump.FileType.{FileType}
 use Rattle.messages.specs.declared.file_dump.FileType.TheVariants.{MIDI, MIEX, ESEQ, TEXT, BIN, MAC, Custom}
+use Rattle.numbers_to_message.proofs.Files.{unspelled}
 use Rattle.numbers_of_message.specs.Numbers.{number}
 use Rattle.numbers_of_message.specs.Representable.{Within, Representable}
 
@@ -50,44 +52,10 @@ signed_only n (negsuc k) y false false r e g h = omega (arith, ltb-false (2 ^ 64
 
 -- ---- file types
 
--- each of a list
-abbrev All : {A : Type 0} → (A → Type 0) → List A → Type 0
-All P [] = Unit {0}
-All P (a ∷ l) = P a × All P l
-
-numbered_first : {A : Type 0} (P : A → Type 0) (a t : A) (o : Option A) (b : Bool) → P a → (o ≡ some t → P t) → pick b (some a) o ≡ some t → P t
-numbered_first P a t o true p k h = let e : a ≡ t = cc in rw e at p
-numbered_first P a t o false p k h = k h
-
-numbered_all : {A : Type 0} (P : A → Type 0) (f : A → ℕ) (l : List A) (x : ℕ) (t : A) → All P l → numbered f l x ≡ some t → P t
-numbered_all P f [] x t p h = absurd (let q : ◌≡◌ {A = ℕ} 0 1 = cc in omega arith)
-numbered_all P f (a ∷ l) x t p h = numbered_first P a t (numbered f l x) (eqb x (f a)) p.0 (λ g. numbered_all P f l x t p.1 g) h
-
 module _ (l : List ℕ) where
-  abbrev NotCustom : FileType → Type 0
-  NotCustom t = t ≡ Custom l → ⊥
-
-  no_custom : All NotCustom named_types
-  no_custom = (
-    λ e. let q : ◌≡◌ {A = ℕ} 0 1 = cc in omega arith,
-    (
-      λ e. let q : ◌≡◌ {A = ℕ} 0 1 = cc in omega arith,
-      (
-        λ e. let q : ◌≡◌ {A = ℕ} 0 1 = cc in omega arith,
-        (
-          λ e. let q : ◌≡◌ {A = ℕ} 0 1 = cc in omega arith,
-          (
-            λ e. let q : ◌≡◌ {A = ℕ} 0 1 = cc in omega arith,
-            (λ e. let q : ◌≡◌ {A = ℕ} 0 1 = cc in omega arith, tt),
-          ),
-        ),
-      ),
-    ),
-  )
-
   spelled_only : (x : ℕ) (o : Option FileType) → x ≡ file_number_of (Custom l) → x < 2 ^ 32 → numbered file_number_of named_types x ≡ o
       → or_else o (Custom (x / 2 ^ 24 ∷ x / 2 ^ 16 % 256 ∷ x / 2 ^ 8 % 256 ∷ x % 256 ∷ [])) ≡ Custom l → Representable type.FileType (Custom l)
-  spelled_only x (some t) e b g h = absurd (numbered_all NotCustom file_number_of named_types x t no_custom g h)
+  spelled_only x (some t) e b g h = absurd (some_none (sym g ∙ unspelled x l (ap (λ (u : Option FileType). or_else u (Custom l)) g ∙ h)))
   spelled_only x none e b g h =
       let q : x / 2 ^ 24 ∷ x / 2 ^ 16 % 256 ∷ x / 2 ^ 8 % 256 ∷ x % 256 ∷ [] ≡ l = cc in
       let q0 = ap (λ (m : List ℕ). get_or m 0 0) q in

@@ -1,14 +1,11 @@
 -- The fields of a settled message are representable, so its numbers say it. Assumes nothing.
-use mathlib.Core.Path.{◌≡◌, refl, subst}
-use mathlib.Core.Logic.{⊎_elim}
+use mathlib.Core.Path.{◌≡◌, refl, sym, ◌∙◌, subst}
 use mathlib.Core.Bool.{Bool, true, false}
-use mathlib.Core.Option.{Option, none}
 use mathlib.Core.List.{List, [], ◌∷◌}
 use Prim.Native.Nat.{ℕ, zero, suc, ◌+◌, ◌-◌, ◌≤◌, ◌<◌, ◌^◌}
 use native.Mathlib.Omega.{arith}
 use lib.Dec.{leb}
 use lib.IntN.{ℤ, pos, negsuc}
-use borrow.Author.Tests.{eq-eqb, ne_eqb}
 use Rattle.util.specs.Signed.{biased, unbiased, less}
 use Rattle.messages.specs.declared.system_exclusive.DeviceID.TheVariants.{Device, AllCall}
 use Rattle.messages.specs.declared.sample_dump.LoopNumber.TheVariants.{Loop, RequestAll, DeleteAll}
@@ -35,10 +32,10 @@ use Rattle.messages.specs.Maps.{wav_map, offset, select_for}
 use Rattle.messages.specs.Layouts.{form}
 use Rattle.messages.specs.MessageOf.{head_of, fields_of, message_of, head_sample, fields_sample, head_extended, fields_extended, head_file, fields_file, head_request, fields_request, head_keys, fields_keys, head_select, fields_select, any_select, head_reference, fields_reference}
 use Rattle.messages.proofs.Exact.{settled_parts}
-use Rattle.std.proofs.lemmas.Bool.{cases_Bool}
 use Rattle.numbers_to_message.specs.declared.fit.NumberType.TheVariants as type
 use Rattle.numbers_to_message.specs.Types.{DeviceID, LoopNumber, FileType, FileReferenceType, GeneralMidi, SampleDumpMsg, ExtendedSampleDumpMsg, ManufacturerID, FileDumpMsg, WAVMap, SelectMap, FileReferenceMsg, UniversalNonRealTimeMsg}
-use Rattle.numbers_to_message.specs.Values.{file_number_of, numbered}
+use Rattle.numbers_to_message.specs.Values.{file_number_of}
+use Rattle.numbers_to_message.proofs.Files.{type_named, unspelled}
 use Rattle.numbers_of_message.specs.Numbers.{of_sample, of_extended, of_identity, of_file, banked, of_midi, of_select, of_reference, coded}
 use Rattle.numbers_of_message.specs.Numbers as numbers
 use Rattle.numbers_of_message.specs.Representable.{Within, Representable, AllRepresentable, ScaleOfTwelve}
@@ -106,59 +103,12 @@ looked_four x (t ∷ ts) h = pick_four (same_four (type_chars t) x) t (lookup sa
 type_four : (x : Four) → FourLetters (type_of x)
 type_four x = looked_four x named_types (tt, (tt, (tt, (tt, (tt, (tt, tt))))))
 
-module _ (a b c d : ℕ) (low : (a < 128) × ((b < 128) × ((c < 128) × (d < 128)))) where
-  abbrev letters : Four
-  letters = (a, (b, (c, d)))
-
-  abbrev spelled_as : FileType
-  spelled_as = Custom (a ∷ b ∷ c ∷ d ∷ [])
-
-  same_refl : (x : Four) → same_four x x ≡ true
-  same_refl x = rw (eq-eqb x.0 _ refl, eq-eqb x.1.0 _ refl, eq-eqb x.1.1.0 _ refl, eq-eqb x.1.1.1 _ refl)
-
-  -- four letters below 256 are representable by their number
-  abbrev Letters : FileType → Type 0
-  Letters t = ((type_chars t).0 < 256) × (((type_chars t).1.0 < 256) × (((type_chars t).1.1.0 < 256) × ((type_chars t).1.1.1 < 256)))
-
-  same_number : (t : FileType) → Letters t → file_number_of (spelled_as) ≡ file_number_of t → same_four (type_chars t) letters ≡ true
-  same_number t l e =
-      let p : a ≡ (type_chars t).0 = omega arith in
-      let q : b ≡ (type_chars t).1.0 = omega arith in
-      let r : c ≡ (type_chars t).1.1.0 = omega arith in
-      let s : d ≡ (type_chars t).1.1.1 = omega arith in
-      rw (p, q, r, s) (same_refl (type_chars t))
-
-  abbrev spelled_in : List FileType → FileType
-  spelled_in ts = lookup same_four type_chars custom_type ts letters
-
-  abbrev numbered_in : List FileType → Option FileType
-  numbered_in ts = numbered file_number_of ts (file_number_of (spelled_as))
-
-  -- one name more that is not spelled
-  no_name : (t : FileType) (ts : List FileType) → Letters t → (t ≡ spelled_as → ⊥) → spelled_in (t ∷ ts) ≡ spelled_as
-      → (spelled_in ts ≡ spelled_as → numbered_in ts ≡ none) → numbered_in (t ∷ ts) ≡ none
-  no_name t ts l n e k =
-      ⊎_elim
-      (λ (s : same_four (type_chars t) letters ≡ true). absurd (n (rw s at e)))
-      (λ (s : same_four (type_chars t) letters ≡ false).
-      rw (ne_eqb _ _ (λ q. let y = same_number t l q in let z : ◌≡◌ {A = ℕ} 0 1 = cc in omega arith)) (k (rw s at e)))
-      (cases_Bool (same_four (type_chars t) letters))
-
-  unspelled : spelled_in named_types ≡ spelled_as → numbered_in named_types ≡ none
-  unspelled e =
-      no_name MIDI (MIEX ∷ ESEQ ∷ TEXT ∷ BIN ∷ MAC ∷ []) (omega arith) (λ (q : MIDI ≡ spelled_as). let z : ◌≡◌ {A = ℕ} 0 1 = cc in omega arith) e λ e₁.
-      no_name MIEX (ESEQ ∷ TEXT ∷ BIN ∷ MAC ∷ []) (omega arith) (λ (q : MIEX ≡ spelled_as). let z : ◌≡◌ {A = ℕ} 0 1 = cc in omega arith) e₁ λ e₂.
-      no_name ESEQ (TEXT ∷ BIN ∷ MAC ∷ []) (omega arith) (λ (q : ESEQ ≡ spelled_as). let z : ◌≡◌ {A = ℕ} 0 1 = cc in omega arith) e₂ λ e₃.
-      no_name TEXT (BIN ∷ MAC ∷ []) (omega arith) (λ (q : TEXT ≡ spelled_as). let z : ◌≡◌ {A = ℕ} 0 1 = cc in omega arith) e₃ λ e₄.
-      no_name BIN (MAC ∷ []) (omega arith) (λ (q : BIN ≡ spelled_as). let z : ◌≡◌ {A = ℕ} 0 1 = cc in omega arith) e₄ λ e₅.
-      no_name MAC ([]) (omega arith) (λ (q : MAC ≡ spelled_as). let z : ◌≡◌ {A = ℕ} 0 1 = cc in omega arith) e₅ λ e₆. refl
-
 custom_representable : (l : List ℕ) → length l ≡ 4 → file_type.settled (Custom l) → Representable type.FileType (Custom l)
 custom_representable [] e h = absurd (omega arith)
 custom_representable (a ∷ []) e h = absurd (omega arith)
 custom_representable (a ∷ b ∷ []) e h = absurd (omega arith)
 custom_representable (a ∷ b ∷ c ∷ []) e h = absurd (omega arith)
-custom_representable (a ∷ b ∷ c ∷ d ∷ []) e h = (refl, omega arith, unspelled a b c d h.0 h.1)
+custom_representable (a ∷ b ∷ c ∷ d ∷ []) e h = (refl, omega arith, unspelled (file_number_of (Custom (a ∷ b ∷ c ∷ d ∷ []))) _ (sym (type_named (a, (b, (c, d))) (omega arith)) ∙ h.1))
 custom_representable (a ∷ b ∷ c ∷ d ∷ f ∷ l) e h = absurd (omega arith)
 
 file_representable : (t : FileType) → file_type.settled t → Representable type.FileType t

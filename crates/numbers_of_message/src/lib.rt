@@ -1,4 +1,5 @@
 // A message as numbers: head code, device, then the fields.
+// Kept as two parameters, an output and the number of a device: a struct of both would be made for each message.
 #![tactic(auto)]
 
 ghost use Rattle.std.specs.Prelude.{◌≡◌, leb, length};

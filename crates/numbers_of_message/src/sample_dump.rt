@@ -1,4 +1,5 @@
 // Sample dumps.
+// Kept as two parameters, an output and the number of a device: a struct of both would be made for each message.
 ghost use Rattle.std.specs.Prelude.{[], ◌∷◌};
 ghost use Rattle.numbers_of_message.specs.Put.{Put};
 ghost use Rattle.numbers_of_message.specs.Numbers.{numbers, of_sample};

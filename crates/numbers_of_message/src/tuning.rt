@@ -1,4 +1,5 @@
 // Tunings.
+// Kept as two parameters, an output and the number of a device: a struct of both would be made for each message.
 ghost use Rattle.std.specs.Prelude.{◌≡◌, [], ◌∷◌};
 ghost use Rattle.numbers_to_message.specs.Values.{bank_number_of};
 ghost use Rattle.numbers_of_message.specs.Put.{Put};

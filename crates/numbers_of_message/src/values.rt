@@ -3,7 +3,7 @@ ghost use Rattle.std.specs.Prelude.{◌≡◌};
 ghost use Rattle.messages.specs.Fields.{bit};
 ghost use Rattle.numbers_to_message.specs.Values.{device_number_of, bank_number_of, loop_index_of, file_number_of, reference_number_of, signed_number_of};
 
-use messages::file_dump::{FileType, type_letters};
+use messages::file_dump::FileType;
 use messages::file_reference::FileReferenceType;
 use messages::sample_dump::LoopNumber;
 use messages::system_exclusive::DeviceID;
@@ -40,8 +40,7 @@ pub fn loop_index(i: LoopNumber) -> u64
 pub fn type_number(t: FileType) -> u64
     ensures { result ≡ file_number_of t }
 {
-    let l = type_letters(t);
-    ((l[0] as u64 * 256 + l[1] as u64) * 256 + l[2] as u64) * 256 + l[3] as u64
+    u32::from_be_bytes(t.into()).into()
 }
 
 // The type of a sound file.

@@ -82,5 +82,9 @@ module _ (w : Width) (n x : ℕ) (is : 2 ^ hbits w ≡ n) (s : n ≤ 2 ^ 63) (l 
     by_half true e r o = low_is (ltb-true x (2 ^ 63) e) r o
     by_half false e r o = high_is (ltb-false x (2 ^ 63) e) r o
 
-    pub try_signed : (r : Result ℤ E) → OkIff r (SFits w (to_z w64 x)) (to_z w64 x) → result_ok r ≡ option_of (signed n x)
+    try_signed : (r : Result ℤ E) → OkIff r (SFits w (to_z w64 x)) (to_z w64 x) → result_ok r ≡ option_of (signed n x)
     try_signed r o = by_half (ltb x (2 ^ 63)) refl r o
+
+    -- what std converts of the number as it is signed
+    pub signed_answer : (r : Result ℤ E) (y z : ℤ) → y ≡ z → z ≡ to_z w64 x → OkIff r (SFits w y) y → result_ok r ≡ option_of (signed n x)
+    signed_answer r y z p q o = try_signed r (subst (λ (u : ℤ). OkIff r (SFits w u) u) (p ∙ q) o)

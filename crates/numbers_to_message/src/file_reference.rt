@@ -1,5 +1,6 @@
 // File references.
 // Kept as one function for each message: messages differ in their fields and in the types of their numbers.
+// Kept as two parameters, the numbers and their head code: the code is read once, and says alone which rows are tried.
 ghost use Rattle.std.specs.Prelude.{◌≡◌, [], ◌≤◌, get_or};
 ghost use Rattle.numbers_to_message.specs.Rows.{open_file, close_file, select_list, select_offset, select_wav, select_both, selected};
 ghost use Rattle.numbers_to_message.specs.declared.fit.NumberType.TheVariants as type;

@@ -80,6 +80,7 @@ pub fn fits_type(t: NumberType, x: u64) -> bool
 pub fn fits_row(v: &[u64], types: &[NumberType]) -> bool
     ensures { result ≡ fits types.now v.now 2 }
 {
+    // Kept as a loop over places: a zip would not tell that there are fewer numbers than types.
     for (i, t) in types.iter().enumerate() {
         if v.len() <= i + 2 {
             return false;

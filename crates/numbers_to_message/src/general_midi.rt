@@ -1,4 +1,5 @@
 // General MIDI, turned on or off.
+// Kept as two parameters, the numbers and their head code: the code is read once, and says alone which rows are tried.
 ghost use Rattle.std.specs.Prelude.{◌≡◌, []};
 ghost use Rattle.numbers_to_message.specs.Table.{find, midi_rows};
 ghost use Rattle.numbers_to_message.specs.Fits.{answer, first_message};

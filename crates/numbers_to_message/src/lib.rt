@@ -1,4 +1,5 @@
 // The message that numbers say: head code, device, then the fields of the head.
+// Kept as two parameters, the numbers and their head code: the code is read once, and says alone which rows are tried.
 #![tactic(auto)]
 
 ghost use Rattle.std.specs.Prelude.{◌≡◌};

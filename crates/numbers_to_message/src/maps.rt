@@ -1,5 +1,6 @@
 // The maps of a select. A map is ten numbers, of which a form does not use some.
 // Kept as one function for each form: forms differ in the map that they make.
+// Kept as v and i side by side, a slice and a place in it, as in `values`.
 ghost use Rattle.std.specs.Prelude.{◌≡◌, ◌≤◌};
 ghost use Rattle.numbers_to_message.specs.Places.{offset_map_at, plain_map_at, both_map_at};
 

@@ -1,7 +1,7 @@
 // The value that a number says, by its type: each answers None for a number that misfits.
 ghost use Rattle.std.specs.Prelude.{◌≡◌, Some, eqb};
 ghost use Rattle.util.specs.Pick.{pick};
-ghost use Rattle.numbers_to_message.specs.Values.{value, loop_value, spelled};
+ghost use Rattle.numbers_to_message.specs.Values.{value, loop_value};
 ghost use Rattle.numbers_to_message.specs.Fits.{option_of};
 ghost use Rattle.numbers_to_message.specs.declared.fit.NumberType.TheVariants as type;
 
@@ -90,34 +90,15 @@ pub fn extended_loop_type_of(x: u64) -> Option<ExtendedLoopType>
     ExtendedLoopType::try_from(u8_of(x)?).ok()
 }
 
-// The type of four bytes, the first highest: the named one where they spell one.
-fn spelled_of(x: u32) -> FileType
-    ensures { result ≡ spelled x }
-{
-    match x {
-        0x4D494449 => FileType::MIDI,
-        0x4D494558 => FileType::MIEX,
-        0x45534551 => FileType::ESEQ,
-        0x54455854 => FileType::TEXT,
-        0x42494E20 => FileType::BIN,
-        0x4D414320 => FileType::MAC,
-        _ => FileType::Custom([
-            (x / 16777216) as u8,
-            (x / 65536 % 256) as u8,
-            (x / 256 % 256) as u8,
-            (x % 256) as u8,
-        ]),
-    }
-}
-
-// A file type.
+// A file type: the number has its four bytes, the first highest.
 pub fn file_type_of(x: u64) -> Option<FileType>
     ensures { result ≡ option_of (value type.FileType x) }
 {
-    u32_of(x).map(spelled_of)
+    Some(FileType::from(u32_of(x)?.to_be_bytes()))
 }
 
 // The file type of a file reference.
+// Kept as a match: the library has no way from a number to a variant.
 pub fn reference_type_of(x: u64) -> Option<FileReferenceType>
     ensures { result ≡ option_of (value type.ReferenceType x) }
 {

@@ -1,5 +1,6 @@
 // Sample dumps.
 // Kept as one function for each row: rows differ in the message that they make and in the types of its numbers.
+// Kept as two parameters, the numbers and their head code: the code is read once, and says alone which rows are tried.
 ghost use Rattle.std.specs.Prelude.{◌≡◌, []};
 ghost use Rattle.numbers_to_message.specs.Rows.{header, packet, request};
 ghost use Rattle.numbers_to_message.specs.Table.{find, one, sample_rows};

@@ -1,4 +1,7 @@
 // Tunings.
+// Kept as one function for each row: rows differ in the message that they make and in the types of its numbers.
+// Kept as two parameters, the numbers and their head code: the code is read once, and says alone which rows are tried.
+// Kept as v and i side by side, a slice and a place in it, as in `values`.
 ghost use Rattle.std.specs.Prelude.{◌≡◌, [], ◌∷◌, ◌≤◌};
 ghost use Rattle.numbers_to_message.specs.Rows.{bulk_request, bank_bulk_request, keys, bank_keys, note_change, scale_dump_1, scale_tuning_1, scale_dump_2, scale_tuning_2, twelve};
 ghost use Rattle.numbers_to_message.specs.declared.fit.NumberType.TheVariants as type;

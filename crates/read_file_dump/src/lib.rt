@@ -82,14 +82,14 @@ pub fn packet(f: &Fields) -> Option<Found>
 }
 
 // Writes the data of the packed bytes from a place on.
+// Kept as a slice and a place in it, as the other writers of a list take them.
 pub fn put_data(out: &mut [u8], f: &[u8], at: usize)
     requires { Seven f.now × (at ≤ length f.now) × (length (data_at f.now at) ≤ length out.old) }
     ensures { out.new ≡ overwritten (data_at f.now at) out.old }
 {
-    let groups = (f.len() - at) / 8;
-    for n in 0..groups {
-        let i = at + 8 * n;
-        packed::put_group(&mut out[7 * n..], &f[i..i + 8]);
+    let (groups, rest) = f[at..].as_chunks::<8>();
+    for (n, group) in groups.iter().enumerate() {
+        packed::put_group(&mut out[7 * n..], group);
     }
-    packed::put_rest(&mut out[7 * groups..], &f[at + 8 * groups..]);
+    packed::put_rest(&mut out[7 * groups.len()..], rest);
 }

@@ -1,12 +1,13 @@
 // The fronts of file dumps.
 // Kept as one function for each front: fronts differ in their bytes, and each is one array.
+// Kept as two parameters, an output and the number of a device: a front has both beside its own fields, and a struct of both would be made for each.
 ghost use Rattle.std.specs.Prelude.{◌≡◌, ◌≤◌, length};
 ghost use Rattle.util.specs.Splice.{overwritten};
 ghost use Rattle.write_fronts.specs.Fronts.{front_file};
 ghost use Rattle.write_fronts.specs.Sizes.{size_file};
 
 use crate::values::LARGEST_U28;
-use messages::file_dump::{FileDumpMsg, FileType, type_letters};
+use messages::file_dump::{FileDumpMsg, FileType};
 use messages::system_exclusive::DeviceID;
 use util::bytes;
 
@@ -15,7 +16,7 @@ fn put_header(out: &mut [u8], d: u64, sender: DeviceID, kind: FileType, len: u32
     requires { 13 ≤ length out.old }
     ensures { out.new ≡ overwritten (front_file d (FileDumpMsg.Header sender kind len)) out.old }
 {
-    let letters = type_letters(kind);
+    let letters = <[u8; 4]>::from(kind);
     let l = (len as u64).min(LARGEST_U28);
     let row = [
         0x7E,
@@ -48,7 +49,7 @@ fn put_request(out: &mut [u8], d: u64, requester: DeviceID, kind: FileType)
     requires { 9 ≤ length out.old }
     ensures { out.new ≡ overwritten (front_file d (FileDumpMsg.Request requester kind)) out.old }
 {
-    let letters = type_letters(kind);
+    let letters = <[u8; 4]>::from(kind);
     let row = [
         0x7E,
         d.min(127) as u8,

@@ -1,4 +1,5 @@
 // The fronts of file references.
+// Kept as two parameters, an output and the number of a device: a front has both beside its own fields, and a struct of both would be made for each.
 ghost use Rattle.std.specs.Prelude.{◌≡◌, ◌∷◌, [], ◌≤◌, ℕ, length};
 ghost use Rattle.util.specs.Splice.{overwritten};
 ghost use Rattle.messages.specs.Maps.{reference_letters};
@@ -6,7 +7,7 @@ ghost use Rattle.write_fronts.specs.Fronts.{start_2, letters, front_reference};
 ghost use Rattle.write_fronts.specs.Sizes.{size_reference};
 
 use crate::values::{map_length, url_length, url_map_length};
-use messages::file_reference::{FileReferenceMsg, FileReferenceType, reference_letters};
+use messages::file_reference::{FileReferenceMsg, FileReferenceType};
 use util::bytes;
 use util::limits::LARGEST_U14;
 
@@ -17,7 +18,7 @@ fn put_open(out: &mut [u8], d: u64, b: u8, ctx: u16, n: u64, kind: FileReference
 {
     let t = (ctx as u64).min(LARGEST_U14);
     let l = n.min(LARGEST_U14);
-    let name = reference_letters(kind);
+    let name = <[u8; 4]>::from(kind);
     let row = [
         0x7E,
         d.min(127) as u8,

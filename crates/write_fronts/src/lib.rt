@@ -1,4 +1,5 @@
 // The front of each message, from 7E up to its first list, and how long it is.
+// Kept as two parameters, an output and the number of a device: a front has both beside its own fields, and a struct of both would be made for each.
 #![tactic(auto)]
 
 ghost use Rattle.std.specs.Prelude.{◌≡◌, ◌≤◌, length};

@@ -1,5 +1,7 @@
 // The fronts of sample dumps.
 // Kept as one function for each front: fronts differ in their bytes, and each is one array.
+// Kept as two parameters, an output and the number of a device: a front has both beside its own fields, and a struct of both would be made for each.
+// Kept as a number of a device and fields in wire order: a message has them so.
 ghost use Rattle.std.specs.Prelude.{◌≡◌, ◌∷◌, [], ◌≤◌, length};
 ghost use Rattle.util.specs.Splice.{overwritten};
 ghost use Rattle.messages.specs.Fields.{loop_value};

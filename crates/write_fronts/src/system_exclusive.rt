@@ -1,5 +1,6 @@
 // The fronts of identity, General MIDI and handshake messages.
 // Kept as one function for each front: fronts differ in their bytes, and each is one array.
+// Kept as two parameters, an output and the number of a device: a front has both beside its own fields, and a struct of both would be made for each.
 ghost use Rattle.std.specs.Prelude.{◌≡◌, ◌∷◌, [], ◌≤◌, length};
 ghost use Rattle.util.specs.Splice.{overwritten};
 ghost use Rattle.write_fronts.specs.Fronts.{clamp, start_1, start_2, front_maker, front_reply, front_midi};

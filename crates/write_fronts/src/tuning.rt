@@ -1,4 +1,5 @@
 // The fronts of tunings.
+// Kept as two parameters, an output and the number of a device: a front has both beside its own fields, and a struct of both would be made for each.
 ghost use Rattle.std.specs.Prelude.{◌≡◌, ◌∷◌, [], ◌≤◌, length};
 ghost use Rattle.util.specs.Splice.{overwritten};
 ghost use Rattle.messages.specs.Fields.{bank_number};

@@ -34,6 +34,7 @@ fn maps_length(y: usize) -> u64
 }
 
 // The length of a map, for y entries.
+// Kept beside `size_select` of write_lists: a frame says 15 for an offset of a WAV file, which has 16 bytes.
 pub fn map_length(m: SelectMap, y: usize) -> u64
     ensures { result ≡ map_length m y }
 {

@@ -12,11 +12,12 @@ use lib.ListN.{length, take, drop, get_or, length-drop, drop_of_length-le}
 use lib.Pow.{pow_pos, mod-mod-pow}
 use lib.Seq.{drop-cons, drop-drop, length-take-le}
 use borrow.Author.Tests.{ne_eqb}
+use Rattle.std.specs.Simd.{first_chunks}
 use Rattle.util.specs.Groups.{Seven}
 use Rattle.util.specs.Options.{only_if, map_option}
 use Rattle.util.specs.Packing.{unpack}
 use Rattle.util.specs.Pick.{pick}
-use Rattle.util.proofs.Laws.Groups.{seven_drop}
+use Rattle.util.proofs.Laws.Groups.{seven_take, seven_drop}
 use Rattle.read_places.specs.Places.{data_from, none_over}
 use Rattle.read_places.proofs.Laws.Numbers.{seven_get}
 
@@ -54,19 +55,20 @@ eight_split : (l : List ℕ) → Seven l → 8 ≤ length l → data_from 0 0 l 
 eight_split [] s h = absurd (omega arith)
 eight_split (b ∷ l) s h = data_split 7 b l (omega arith) s.0
 
-eight_long : (i : ℕ) → i + 8 - i ≡ 8
-eight_long i = omega arith
-
--- the eight bytes from i on
-pub group_size : (l : List ℕ) (i : ℕ) → i + 8 ≤ length l → length (take (i + 8 - i) (drop i l)) ≡ 8
-group_size l i h = rw (eight_long i) (length-take-le 8 (drop i l) (omega (arith, length-drop i l)))
-
 pub group_length : (l : List ℕ) → length l ≡ 8 → length (data_from 0 0 l) ≡ 7
 group_length l h = omega (arith, data_length 0 0 l (omega arith))
 
-pub group_turn : (l : List ℕ) (i : ℕ) → Seven l → i + 8 ≤ length l
-    → data_from 0 0 (drop i l) ≡ data_from 0 0 (take (i + 8 - i) (drop i l)) ++ data_from 0 0 (drop (i + 8) l)
-group_turn l i s h = rw (eight_long i, ← drop-drop 8 i l) (eight_split (drop i l) (seven_drop i l s) (omega (arith, length-drop i l)))
+-- group n of the k groups of eight bytes in front: its data, and that of what comes after it
+pub group_turn : (k n : ℕ) (l : List ℕ) → Seven l → n < k → 8 * k ≤ length l
+    → let g = get_or (first_chunks 8 k l) n [] in
+    Seven g × (length g ≡ 8) × (data_from 0 0 (drop (8 * n) l) ≡ data_from 0 0 g ++ data_from 0 0 (drop (8 * (n + 1)) l))
+group_turn zero n l s h r = absurd (omega arith)
+group_turn (suc k) zero l s h r = (seven_take 8 l s, length-take-le 8 l (omega arith), eight_split l s (omega arith))
+group_turn (suc k) (suc n) l s h r =
+    let e : 8 * suc n ≡ 8 + 8 * n = omega arith in
+    let d : 8 * (suc n + 1) ≡ 8 + 8 * (n + 1) = omega arith in
+    rw (d, e, ← drop-drop (8 * n) 8 l, ← drop-drop (8 * (n + 1)) 8 l)
+    (group_turn k n (drop 8 l) (seven_drop 8 l s) (omega arith) (omega (arith, length-drop 8 l)))
 
 -- a list of eight bytes, byte by byte
 eight_bytes : (l : List ℕ) → length l ≡ 8

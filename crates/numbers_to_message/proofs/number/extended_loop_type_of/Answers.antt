@@ -5,4 +5,4 @@ use Rattle.numbers_to_message.proofs.Loops.{extended_loop_of_byte}
 use Rattle.numbers_to_message.proofs.number.extended_loop_type_of.Goals as goal
 
 pub returns : goal.returns
-returns c = c.ok.ensures.value ∙ extended_loop_of_byte c.args.x c.in_ok-u8_of.field-0 c.try_from.result c.in_ok-u8_of.ensures c.try_from.ensures
+returns c = c.ok.ensures.value ∙ extended_loop_of_byte c.args.x c.in_ok-u8_of.field-0 _ c.in_ok-u8_of.ensures c.try_from.ensures
