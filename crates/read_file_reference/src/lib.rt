@@ -1,4 +1,5 @@
 // Reads the fields of file references: open, select, open and select, close.
+// The clause `Seven f.now` of a contract hands the invariant of `Fields` on to the proofs of the callers.
 #![tactic(auto)]
 
 ghost use Rattle.std.specs.Prelude.{◌≡◌, ◌+◌, ◌≤◌, length, drop};

@@ -1,4 +1,6 @@
 // The maps of a file reference by place: bank maps, WAV maps, offsets.
+// Kept as `Fields` and a place in them: the same fields serve many places.
+// The clause `Seven f.now` of a contract hands the invariant of `Fields` on to the proofs of the callers.
 ghost use Rattle.std.specs.Prelude.{◌≡◌, ◌+◌, ◌*◌, ◌^◌, ◌<◌, ◌≤◌, length, drop};
 ghost use Rattle.util.specs.Limits.{most_places};
 ghost use Rattle.util.specs.Groups.{Seven};
@@ -113,12 +115,7 @@ fn flags_fit(f: &Fields, start: usize, n: usize) -> bool
     requires { (start + 8 * n ≤ length f.now) × (start + 8 * n < 2 ^ 64) }
     ensures { result ≡ flags_fit f.now start n }
 {
-    for j in 0..n {
-        if 3 < f.at(start + 8 * j + 6) {
-            return false;
-        }
-    }
-    true
+    (0..n).all(|j| f.at(start + 8 * j + 6) <= 3)
 }
 
 // A bank offset from i to the end.

@@ -1,4 +1,6 @@
 // The type of a file reference by place, and how long its URL is.
+// Kept as `Fields` and a place in them: the same fields serve many places.
+// The clause `Seven f.now` of a contract hands the invariant of `Fields` on to the proofs of the callers.
 ghost use Rattle.std.specs.Prelude.{◌≡◌, ◌==◌, ◌+◌, ◌≤◌, length, drop, position};
 ghost use Rattle.std.proofs.Math.Option.{some};
 ghost use Rattle.util.specs.Groups.{Seven};
@@ -21,6 +23,7 @@ pub fn spells(f: &Fields, i: usize, letters: &[u8]) -> bool
 }
 
 // The type whose four letters stand at i.
+// Kept as tests of the front of a slice: for a match over four letters an array of them would have to be made first.
 pub fn type_at(f: &Fields, i: usize) -> Option<FileReferenceType>
     requires { i + 4 ≤ length f.now }
     ensures { type_got result (drop (i + 4) f.now) ≡ look reference_types (drop i f.now) }

@@ -13,6 +13,8 @@ use read_sample_dump::{extended_sample_dump, sample_dump};
 
 // What the fields under a head say.
 // Kept as a match over heads: it is the table of 01, which a table of functions would only search.
+// Inlined, as a message that is handed on is copied in pieces (docs/SPEED.md).
+#[inline(always)]
 pub fn fields_of(h: Head, f: &Fields) -> Option<Found>
     ensures { Reads h result f.now }
 {

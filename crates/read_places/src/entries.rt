@@ -10,7 +10,7 @@ pub fn put_each<E: Fn(usize) -> u64>(out: &mut [u64], n: usize, entry: E)
     ensures put { (i : ℕ) → i < n → E.post entry i (slice_index out.new i) }
     ensures rest { (i : ℕ) → n ≤ i → slice_index out.new i ≡ slice_index out.old i }
 {
-    for i in 0..n {
-        out[i] = entry(i);
+    for (i, place) in out[..n].iter_mut().enumerate() {
+        *place = entry(i);
     }
 }

@@ -1,4 +1,5 @@
 // The fields of a frame, by place.
+// Kept as methods that take a place: the same fields serve many places.
 ghost use Rattle.std.specs.Prelude.{◌≡◌, List, ℕ, length, get_or};
 ghost use Rattle.util.specs.Groups.{Seven};
 ghost use Rattle.read_places.specs.Places.{value_at};

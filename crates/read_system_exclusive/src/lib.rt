@@ -22,6 +22,7 @@ pub fn identity_request(f: &Fields) -> Option<Found>
 }
 
 // An identity reply: its maker, and the eight bytes from i on.
+// Kept as `Fields` and a place in them: the same fields serve two places.
 fn reply_of(f: &Fields, id: ManufacturerID, i: usize) -> Found
     requires { i ≤ 3 }
     ensures { result ≡ found (UniversalNonRealTimeMsg.IdentityReply (reply id (after_maker_at f.now i))) 0 0 0 0 }

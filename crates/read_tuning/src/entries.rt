@@ -1,4 +1,5 @@
 // Tunings and note changes of the fields, as entries of lent places.
+// Kept as a slice and a place in it: one slice serves many places.
 ghost use Rattle.std.specs.Prelude.{◌≡◌, ◌+◌, ◌^◌, ◌<◌, ◌≤◌, length};
 ghost use Rattle.util.specs.Limits.{no_tuning};
 ghost use Rattle.messages.specs.Fields.{tuning_named};

@@ -1,4 +1,5 @@
 // Reads the fields under the heads of tunings, and puts their tunings and note changes into lent places.
+// Kept as a slice and a place in it: one slice serves many places.
 #![tactic(auto)]
 
 mod entries;

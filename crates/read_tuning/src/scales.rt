@@ -1,4 +1,5 @@
 // The adjustments of twelve semitones, read from a place on.
+// Kept as `Fields` and a place in them: the same fields serve many places.
 ghost use Rattle.std.specs.Prelude.{◌≡◌, ◌+◌, ◌≤◌, length};
 ghost use Rattle.util.specs.Signed.{unbiased};
 ghost use Rattle.read_places.specs.Places.{value_at};
@@ -28,6 +29,7 @@ fn i14_at(f: &Fields, i: usize) -> i16
 }
 
 // Inlined, both: where the length of the fields is known no place is tested again (docs/SPEED.md).
+// Kept as loops: by `std::array::from_fn`, which is proved too, a scale dump of two bytes took 2.05 times plain C in place of 1.33; its bar is 1.50.
 
 // Twelve signed values of one group each, from i on.
 #[inline(always)]

@@ -1,23 +1,24 @@
 -- The maps of file references, by place.
 -- Assumes nothing.
 use mathlib.Core.Path.{◌≡◌, refl, sym, ap, ◌∙◌}
-use mathlib.Core.Bool.{Bool, true, false, not}
-use mathlib.Core.Option.{none, some}
+use mathlib.Core.Bool.{Bool, true, false}
+use mathlib.Core.Option.{some}
 use mathlib.Core.List.{List, [], ◌∷◌, map}
-use Prim.Native.Nat.{ℕ, zero, suc, ◌+◌, ◌*◌, ◌-◌, ◌<◌, ◌≤◌}
+use Prim.Native.Nat.{ℕ, zero, suc, ◌+◌, ◌*◌, ◌<◌, ◌≤◌}
 use native.Mathlib.Nat.{add-zero, mul-zero, mul-suc}
 use native.Mathlib.Omega.{arith}
-use lib.Dec.{eqb, ltb, leb, lit<, lit≤}
+use lib.Dec.{leb, lit<, lit≤}
 use lib.ListN.{length, drop, get_or}
 use lib.Seq.{drop-cons}
-use borrow.Author.Tests.{lt-ltb, le-leb, lt-leb, leb-true, leb-false, ne_eqb}
+use borrow.Author.Tests.{le-leb, lt-leb, leb-true, leb-false}
+use Rattle.std.specs.List.{list_all, range_with_len}
 use Rattle.util.specs.Groups.{Seven}
 use Rattle.messages.specs.declared.file_reference.SoundFileMap.{SoundFileMap}
 use Rattle.messages.specs.format.Core.{bad, got, guard, bind}
 use Rattle.messages.specs.format.Numbers.{read_range}
 use Rattle.messages.specs.format.Sequence.{strip}
 use Rattle.messages.specs.format.Lists.{all_read}
-use Rattle.messages.specs.Fields.{is_set, bits_of}
+use Rattle.messages.specs.Fields.{is_set}
 use Rattle.messages.specs.Entries.{map_entry, map_of}
 use Rattle.messages.specs.Maps.{sound_file_map, wav_map, offset}
 use Rattle.messages.proofs.Entries.{map_back}
@@ -143,14 +144,6 @@ module _ (f : List ℕ) (s : Seven f) where
   -- ---- an offset
 
   module _ (i : ℕ) (h : i + 7 ≤ length f) where
-    pub offset_other : strip (0x00 ∷ 0x00 ∷ 0x01 ∷ 0x03 ∷ []) (drop i f) ≡ none → offset.read (drop i f) ≡ bad
-    offset_other e = rw e
-
-    pub offset_bad : strip (0x00 ∷ 0x00 ∷ 0x01 ∷ 0x03 ∷ []) (drop i f) ≡ some (drop (i + 4) f) → 1 < get_or f (i + 6) 0 → offset.read (drop i f) ≡ bad
-    offset_bad e p =
-        let e6 : i + 4 + 2 ≡ i + 6 = omega arith in
-        rw (e, unsigned_at f s 2 (i + 4) (omega arith), e6, range_above 0 1 (lit≤ tt) (lit< tt) f (i + 6) (omega arith) p)
-
     pub offset_read : strip (0x00 ∷ 0x00 ∷ 0x01 ∷ 0x03 ∷ []) (drop i f) ≡ some (drop (i + 4) f) → get_or f (i + 6) 0 ≤ 1
         → offset.read (drop i f) ≡ got (record { bank_offset = value_at 2 f (i + 4); drum = is_set (get_or f (i + 6) 0) }) (drop (i + 7) f)
     offset_read e p =
@@ -164,39 +157,8 @@ module _ (f : List ℕ) (s : Seven f) where
           e7,
         )
 
--- ---- the flags of a bank map
+-- ---- a test of the flags of n bank maps, from the a-th behind i on
 
-pub source_set : (v : ℕ) (t : Bool) → eqb v 2 ≡ t → (v ≡ 0 → ⊥) → not t ≡ (bits_of v).0
-source_set zero t e k = absurd (k refl)
-source_set (suc zero) t e k = rw (← e)
-source_set (suc (suc zero)) t e k = rw (← e)
-source_set (suc (suc (suc v))) t e k = rw (← e, ne_eqb (suc (suc (suc v))) 2 (λ z. omega arith))
-
-pub target_set : (v : ℕ) → ltb 1 v ≡ (bits_of v).1
-target_set zero = refl
-target_set (suc zero) = refl
-target_set (suc (suc zero)) = refl
-target_set (suc (suc (suc v))) = lt-ltb 1 (suc (suc (suc v))) (omega arith)
-
--- ---- the flags of n bank maps, from i on, with j of them passed
-
-module _ (f : List ℕ) (i n j : ℕ) (h : j < n) where
-  flags_left : n - j ≡ suc (n - (j + 1))
-  flags_left = omega arith
-
-  pub flags_turn : get_or f (i + 8 * j + 6) 0 ≤ 3 → flags_fit f (i + 8 * (j + 1)) (n - (j + 1)) ≡ flags_fit f (i + 8 * j) (n - j)
-  flags_turn p =
-      let d : i + 8 * (j + 1) ≡ i + 8 * j + 8 = omega arith in
-      rw (flags_left, d, le-leb _ _ p)
-
-  pub flags_found : 3 < get_or f (i + 8 * j + 6) 0 → flags_fit f (i + 8 * j) (n - j) ≡ false
-  flags_found p = rw (flags_left, lt-leb _ _ p)
-
-pub flags_start : (f : List ℕ) (i n : ℕ) → flags_fit f (i + 8 * 0) (n - 0) ≡ flags_fit f i n
-flags_start f i n =
-    let d : i + 8 * 0 ≡ i = omega arith in
-    let e : n - 0 ≡ n = omega arith in
-    rw (d, e)
-
-pub flags_done : (f : List ℕ) (i n j : ℕ) → n ≤ j → flags_fit f i (n - j) ≡ true
-flags_done f i n j h = let e : n - j ≡ 0 = omega arith in ap (flags_fit f i) e
+pub flags_all : (f : List ℕ) (i n a : ℕ) → list_all (λ j. leb (get_or f (i + 8 * j + 6) 0) 3) (range_with_len a n) ≡ flags_fit f (i + 8 * a) n
+flags_all f i zero a = refl
+flags_all f i (suc n) a = let e : i + 8 * (a + 1) ≡ i + 8 * a + 8 = omega arith in rw (flags_all f i n (a + 1), e)

@@ -13,13 +13,13 @@ use lib.Seq.{drop-cons}
 use borrow.Author.Tests.{lt-ltb}
 use Rattle.util.specs.Groups.{Seven}
 use Rattle.util.proofs.Laws.Options.{not_some}
-use Rattle.messages.specs.declared.file_reference.SelectMap.TheVariants.{SoundFile, WAV, SoundFileBankOffset, WAVBankOffset}
+use Rattle.messages.specs.declared.file_reference.SelectMap.TheVariants.{SoundFile, WAV, WAVBankOffset}
 use Rattle.messages.specs.format.Core.{bad, got, Whole}
-use Rattle.messages.specs.format.Sequence.{end, ◌⊗◌}
+use Rattle.messages.specs.format.Sequence.{end}
 use Rattle.messages.specs.format.Lists.{counted, all_bytes}
 use Rattle.messages.specs.format.Tests.{other_length}
 use Rattle.messages.specs.Entries.{map_entry, map_of}
-use Rattle.messages.specs.Maps.{BankOffset, AnySelect, of_bank, of_wav, map_list, map_offset, only_wav_map, wav_map_offset, sound_file_map, wav_map, offset, bank_only, wav_only, maps_size}
+use Rattle.messages.specs.Maps.{BankOffset, AnySelect, of_bank, of_wav, map_list, only_wav_map, wav_map_offset, sound_file_map, wav_map, offset, bank_only, wav_only, maps_size}
 use Rattle.read_places.specs.Places.{map_at, map_entries}
 use Rattle.read_places.proofs.Laws.Numbers.{seven_get}
 use Rattle.read_places.proofs.Laws.Answers.{none_left}
@@ -46,14 +46,6 @@ module _ (f : List ℕ) (s : Seven f) (i : ℕ) where
   module _ (n : length f ≡ i + 7) where
     not_list : (end (counted sound_file_map)).read (drop i f) ≡ none
     not_list = list_other (drop i f) (λ e. omega (arith, length-drop i f))
-
-    pub bank_offset_is : (o : BankOffset) → got o (drop (i + 7) f) ≡ offset.read (drop i f) → bank_only.read (drop i f) ≡ some (of_bank (map_offset o))
-    bank_offset_is o e = rw (not_list, ← e, none_left f (i + 7) n)
-
-    -- the offset was found
-    pub bank_offset_found : {o : ℕ} {b : Bool} → got (record { bank_offset = o; drum = b }) (drop (i + 7) f) ≡ offset.read (drop i f)
-        → Picks bank_only (Some (picked (SoundFileBankOffset o b) 7 0 0)) f i
-    bank_offset_found e = record { says = sym (bank_offset_is _ e); part = (refl, omega arith, omega arith, omega arith, refl) }
 
     pub bank_offset_not : bad ≡ offset.read (drop i f) → bank_only.read (drop i f) ≡ none
     bank_offset_not e = rw (not_list, ← e)
@@ -119,10 +111,6 @@ module _ (f : List ℕ) (s : Seven f) (i : ℕ) where
 
   pub wav_found : length f ≡ i + 9 → Picks wav_only (Some (picked (WAV (wav_at f i)) 9 0 0)) f i
   wav_found n = record { says = sym (wav_is n); part = (refl, omega arith, omega arith, omega arith, refl) }
-
-  pub wav_other : (length f - i ≡ 9 → ⊥) → (length f - i ≡ 16 → ⊥) → wav_only.read (drop i f) ≡ none
-  wav_other j k =
-      rw (wav_length j, other_length (end (wav_map ⊗ offset)) 16 (λ a. refl) (drop i f) (λ e. k (sym (length-drop i f) ∙ e)))
 
   module _ (n : length f ≡ i + 16) where
     pub wav_offset_is : (o : BankOffset) → got o (drop (i + 9 + 7) f) ≡ offset.read (drop (i + 9) f)

@@ -20,10 +20,12 @@ use Rattle.util.specs.Limits.{most_url}
 use Rattle.util.proofs.Laws.Groups.{seven_drop}
 use Rattle.util.proofs.Laws.Splice.{tail_drop}
 use Rattle.util.specs.Options.{only_if}
+use Rattle.messages.specs.declared.file_reference.FileReferenceType.{FileReferenceType}
 use Rattle.messages.specs.format.Core.{bad, got}
 use Rattle.messages.specs.format.Sequence.{strip}
 use Rattle.messages.specs.format.Texts.{up_to_zero, read_text}
 use Rattle.read_file_reference.specs.Texts.{first_zero, Ends}
+use Rattle.read_file_reference.specs.Files.{Names}
 
 -- a list begins with these letters just where they are stripped from it
 and_also : {A : Type 0} (t u : Bool) (o : maybe.Option A) → only_if (t && u) o ≡ only_if t (only_if u o)
@@ -102,9 +104,8 @@ module _ (f : List ℕ) (s : Seven f) (i : ℕ) where
     pub url_long : (n : ℕ) → n < first_zero (drop i f) → read_text n (drop i f) ≡ bad
     url_long n g = rw (text_at, url_length (drop i f), lt-leb _ _ g)
 
-    pub url_at : (n : ℕ) → first_zero (drop i f) ≤ n
-        → read_text n (drop i f) ≡ got (take (first_zero (drop i f)) (drop i f)) (drop (i + first_zero (drop i f) + 1) f)
-    url_at n g = rw (text_at, url_length (drop i f), le-leb _ _ g)
+  pub url_at : (n : ℕ) → Ends (Some n) f i → read_text most_url (drop i f) ≡ got (take n (drop i f)) (drop (i + n + 1) f)
+  url_at n e = rw (e.0, text_at (omega (arith, e.0, e.1)), url_length (drop i f), le-leb (first_zero (drop i f)) most_url (omega (arith, e.0, e.2)))
 
 -- ---- the URL from i on, by the place of the first 00 behind i
 
@@ -128,3 +129,14 @@ module _ (f : List ℕ) (i : ℕ) where
     url_over n e g =
         let w = zero_found (drop i f) n (sym (e ∙ place_drop)) in
         url_long f s i (omega (arith, w.1, length-drop i f)) most_url (omega (arith, w.0))
+
+-- ---- the URL of a file that the fields name
+
+module _ (f : List ℕ) (t : FileReferenceType) (l : ℕ) (x : Seven f × Names (Some (t, l)) f) where
+  pub named_url : read_text most_url (drop 8 f) ≡ got (take l (drop 8 f)) (drop (9 + l) f)
+  named_url =
+      let i : 8 + l + 1 ≡ 9 + l = omega arith in
+      url_at f x.0 8 l x.1.2 ∙ ap (λ (n : ℕ). got (take l (drop 8 f)) (drop n f)) i
+
+  pub named_length : length (take l (drop 8 f)) ≡ l
+  named_length = ap (λ (n : ℕ). length (take n (drop 8 f))) x.1.2.0 ∙ url_length (drop 8 f) ∙ sym x.1.2.0

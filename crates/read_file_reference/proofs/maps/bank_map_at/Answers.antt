@@ -9,15 +9,6 @@ use Rattle.read_file_reference.specs.Maps.{flags_fit}
 use Rattle.read_file_reference.proofs.Laws.Picks.{bank_other, bank_maps_found, bank_flags, picks_none}
 use Rattle.read_file_reference.proofs.maps.bank_map_at.Goals as goal
 
-pub bank_offset_at-requires : goal.bank_offset_at-requires
-bank_offset_at-requires c = (omega (arith, c.len.ensures.size, c.if-length-eq7.true, c.requires), omega (arith, c.if-length-eq7.true))
-
-pub flags_fit-requires : goal.flags_fit-requires
-flags_fit-requires c =
-    let l = c.len.ensures.size in
-    let n = c.if-length-n.false in
-    (omega (arith, c.requires), omega (arith, c.requires))
-
 pub returns-then-length-n : goal.returns-then-length-n
 returns-then-length-n c =
     let f = c.args.f.now in

@@ -1,7 +1,7 @@
 -- `read_file_reference::maps::bank_offset_at` meets its contract, by whether there is an offset.
 -- Assumes nothing.
 use Rattle.messages.specs.Maps.{bank_only}
-use Rattle.read_file_reference.proofs.Laws.Picks.{bank_offset_found, bank_offset_not, picks_none}
+use Rattle.read_file_reference.proofs.Laws.Picks.{bank_offset_not, picks_none}
 use Rattle.read_file_reference.proofs.maps.bank_offset_at.Goals as goal
 
 pub returns-in_err-bank_offset : goal.returns-in_err-bank_offset
@@ -10,8 +10,3 @@ returns-in_err-bank_offset c =
     let i = c.args.i in
     let o = c.in_err-bank_offset.ensures in
     rw c.from_residual.ensures (picks_none bank_only f i (bank_offset_not f o.0 i c.requires.0 o.1))
-
-pub returns : goal.returns
-returns c =
-    let o = c.in_ok-bank_offset.ensures in
-    bank_offset_found c.args.f.now o.0 c.args.i c.requires.0 o.1

@@ -1,30 +1,14 @@
--- `read_file_reference::maps::flags_fit` meets its contract. The invariant: the flags of the maps that are left fit just where all do.
+-- `read_file_reference::maps::flags_fit` meets its contract: it tests the flags of each map.
 -- Assumes nothing.
-use mathlib.Core.Path.{sym, ◌∙◌}
-use Prim.Native.Nat.{◌<◌}
-use native.Mathlib.Omega.{arith}
-use Rattle.read_file_reference.proofs.Laws.Maps.{flags_start, flags_turn, flags_found, flags_done}
+use Rattle.std.proofs.Common.{rules, ◌≡◌, ◌∙◌, ◌+◌, ◌*◌, refl, arith}
+use Rattle.std.proofs.lemmas.Iterator.{YieldsList-from_range}
+use Rattle.std.proofs.lemmas.Iterator.Search.{all_from_yields_List}
+use Rattle.read_file_reference.proofs.Laws.Maps.{flags_all}
 use Rattle.read_file_reference.proofs.maps.flags_fit.Goals as goal
-
-pub loop-j-init : goal.loop-j-init
-loop-j-init c = flags_start c.args.f.now c.args.start c.args.n
-
-pub returns-then-at-gt3 : goal.returns-then-at-gt3
-returns-then-at-gt3 c =
-    let l = c.loop-j in
-    let z = c.args in
-    let h : l.j < z.n = omega arith in
-    sym (sym l.invariant ∙ flags_found z.f.now z.start z.n l.j h (omega (arith, c.at.ensures, c.if-at-gt3.true)))
-
-pub loop-j-preserved : goal.loop-j-preserved
-loop-j-preserved c =
-    let l = c.loop-j in
-    let z = c.args in
-    let h : l.j < z.n = omega arith in
-    flags_turn z.f.now z.start z.n l.j h (omega (arith, c.at.ensures, c.if-at-gt3.false)) ∙ l.invariant
 
 pub returns : goal.returns
 returns c =
-    let l = c.loop-j in
     let z = c.args in
-    sym (sym l.invariant ∙ flags_done z.f.now _ z.n l.j (omega arith))
+    let e : z.start + 8 * 0 ≡ z.start = omega arith in
+    all_from_yields_List _ _ _ _ c.all.ensures.ran (YieldsList-from_range 0 z.n z.n refl (omega arith)) (λ x b q s. search rules)
+    ∙ flags_all z.f.now z.start z.n 0 ∙ rw e
