@@ -1,4 +1,5 @@
 // Reading, its answer in numbers.
+// Kept as slices side by side, a frame, data, entries and an answer: C lends them so, and each contract tells those that are written before and after.
 #![tactic(auto)]
 
 ghost use Rattle.std.specs.Prelude.{◌≡◌, [], ◌∷◌, ◌≤◌, ◌<◌, length, Ok};

@@ -1,5 +1,6 @@
 // A message of numbers written as a frame. NAK, ACK, sample dump headers, packets and scale tuning dumps of two bytes are written from their numbers,
 // with no message made of them.
+// Kept as parameters side by side, numbers, text, entries, an output and a place in it: C lends them so.
 #![tactic(auto)]
 
 mod fits;

@@ -1,4 +1,5 @@
 // Sample dump headers and packets, written from their fields.
+// Kept as an output and a place in it, and as fields in wire order, as the public function has them.
 ghost use Rattle.std.specs.Prelude.{◌≡◌, true, false, [], ◌++◌, ◌≤◌, length};
 ghost use Rattle.util.specs.Splice.{overwritten};
 ghost use Rattle.messages.specs.Messages.{write_of};

@@ -1,4 +1,5 @@
 // Scale tuning dumps of two bytes, written from their fields.
+// Kept as an output and a place in it, and as fields in wire order, as the public function has them.
 ghost use Rattle.std.specs.Prelude.{◌≡◌, true, ◌∷◌, [], ◌++◌, ◌≤◌, length};
 ghost use Rattle.util.specs.Splice.{overwritten};
 ghost use Rattle.messages.specs.format.Core.{written};

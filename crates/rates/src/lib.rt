@@ -75,6 +75,7 @@ pub fn split_rate(rate: f64) -> Result<RatePair, Refusal>
 }
 
 // The rate of a pair: one sum of two exact terms, rounded once.
+// Kept as two numbers: they are fields of a frame, and C has them so.
 pub fn join_rate(whole: u32, fraction: u32) -> f64
     ensures { result ≡ join_of whole fraction }
 {

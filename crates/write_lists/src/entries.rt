@@ -12,6 +12,7 @@ use util::limits::{KEYS, NO_TUNING};
 use util::{fields, groups};
 
 // The tuning of an entry: from 2^24 on there is none.
+// Kept beside `tuning_of` of messages: a value between the entry and its bytes would be made to be taken apart.
 pub struct TuningEntry;
 
 impl Format for TuningEntry {
@@ -35,6 +36,7 @@ impl Format for TuningEntry {
 }
 
 // The note change of an entry: a key and a tuning.
+// Kept beside `KeyTuning::from_entry` of messages: a value between the entry and its bytes would be made to be taken apart.
 pub struct ChangeEntry;
 
 impl Format for ChangeEntry {
@@ -67,6 +69,7 @@ pub fn put_keys(out: &mut [u8], s: &[u64])
     requires { 384 ≤ length out.old }
     ensures { out.new ≡ overwritten (part_keys s.now) out.old }
 {
+    // Kept as a loop over keys: a key behind the given tunings has an entry too.
     for i in 0..KEYS {
         TuningEntry::put(&mut out[3 * i..], key_at(s, i));
     }

@@ -12,6 +12,7 @@ use util::limits::LARGEST_U14;
 use util::{bytes, signed};
 
 // The bank map of an entry.
+// Kept beside `SoundFileMap::from_entry` of messages: a value between the entry and its bytes would be made to be taken apart.
 pub struct MapEntry;
 
 impl Format for MapEntry {

@@ -1,4 +1,5 @@
 // The data of a file packet: a count byte, and the data packed.
+// Kept as an output and what is written to it side by side: parts of either are handed on.
 ghost use Rattle.std.specs.Prelude.{◌≡◌, ◌∷◌, ◌+◌, ◌/◌, ◌≤◌, ◌<◌, length, get_or};
 ghost use Rattle.util.specs.Packing.{tops, pack};
 ghost use Rattle.util.specs.Splice.{overwritten};
@@ -10,6 +11,7 @@ fn top_bits(group: &[u8]) -> u8
     ensures { result ≡ tops 7 group.now }
 {
     let mut t = 0;
+    // Kept as a loop over seven places: a byte that is missing counts as 0.
     for i in 0..7 {
         t = 2 * t + util::groups::at(group, i) / 128;
     }

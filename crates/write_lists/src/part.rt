@@ -1,4 +1,5 @@
 // What follows the front of a message.
+// Kept as a message, its text and its entries side by side: `Admitted` is writer's own, above this crate.
 ghost use Rattle.std.specs.Prelude.{◌≡◌, ◌++◌, ◌+◌, ◌*◌, ◌≤◌, min, length};
 ghost use Rattle.std.proofs.Math.Option.{none};
 ghost use Rattle.util.specs.Splice.{overwritten};

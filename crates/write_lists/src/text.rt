@@ -1,4 +1,5 @@
 // Texts: sample bytes, names and URLs.
+// Kept as an output and what is written to it side by side: parts of either are handed on.
 ghost use Rattle.std.specs.Prelude.{◌≡◌, ◌+◌, ◌≤◌, min, length};
 ghost use Rattle.util.specs.Splice.{overwritten};
 ghost use Rattle.messages.specs.format.Core.{written};

@@ -1,4 +1,5 @@
 // Bank maps that reach the writer as a lent list of map records.
+// Kept as parameters side by side, as those of `writer::write`.
 #![tactic(auto)]
 
 ghost use Rattle.std.specs.Prelude.{◌≡◌, map, ◌≤◌, length, take, get_or};
@@ -59,6 +60,7 @@ pub fn write_maps(
 {
     let n = maps.len().min(MOST_COUNTED);
     let mut entries = [0; MOST_COUNTED];
+    // Kept as a loop over records: the entries behind them stay 0.
     for (i, added) in maps[..n].iter().enumerate() {
         entries[i] = entry_of(*added);
     }

@@ -1,6 +1,6 @@
 -- The frame as the writer puts it together, and the contents of file headers and requests.
-use Rattle.std.specs.Prelude.{Bool, true, false, List, [], ◌∷◌, ◌++◌, ◌≡◌, ℕ, ◌≤◌, length}
-use Rattle.std.proofs.Math.Option.{Option}
+use Rattle.std.specs.Prelude.{Bool, true, false, Result, Ok, Err, List, [], ◌∷◌, ◌++◌, ◌≡◌, ℕ, ◌≤◌, length}
+use Rattle.std.proofs.Math.Option.{Option, none, some}
 use Rattle.util.specs.Limits.{most_name}
 use Rattle.util.specs.Checksum.{checksum}
 use Rattle.util.specs.declared.refusal.Refusal.{Refusal}
@@ -43,6 +43,11 @@ pub record Lent : Type 0 where
   pub m : UniversalNonRealTimeMsg
   pub text : List ℕ
   pub entries : List ℕ
+
+-- a message with what is lent beside it, or the refusal of its contents
+abbrev pub lent : UniversalNonRealTimeMsg → List ℕ → List ℕ → Option Refusal → Result Lent Refusal
+lent m text entries none = Ok (record { m = m; text = text; entries = entries })
+lent m text entries (some r) = Err r
 
 -- the sizes of the frame of a message whose contents are admitted
 pub record SizesOf (s : Sizes) (m : UniversalNonRealTimeMsg) (text entries : List ℕ) : Type 0 where

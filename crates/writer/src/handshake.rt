@@ -1,4 +1,5 @@
 // Handshake messages: frames of six bytes.
+// Kept as an output and a place in it side by side, as the public function has them.
 ghost use Rattle.std.specs.Prelude.{◌≡◌, ◌≤◌, length};
 ghost use Rattle.util.specs.Splice.{overwritten};
 ghost use Rattle.messages.specs.Fields.{device_byte};

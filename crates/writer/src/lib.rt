@@ -1,4 +1,5 @@
 // Writes a message's frame at a place of a longer output.
+// Kept as parameters side by side, a message, its text and entries, an output and a place in it: the public functions take them so. What is tested is an `Admitted`.
 #![tactic(auto)]
 
 pub mod handshake;
@@ -15,7 +16,7 @@ ghost use Rattle.write_fronts.specs.Fronts.{front_of};
 ghost use Rattle.write_fronts.specs.Sizes.{front_size};
 ghost use Rattle.write_lists.specs.Parts.{part_of};
 ghost use Rattle.writer.specs.Write.{has_room, written_at, output_after, length_at};
-ghost use Rattle.writer.specs.Frames.{sum_of, wire, frame_of, Lent, SizesOf};
+ghost use Rattle.writer.specs.Frames.{sum_of, wire, frame_of, Lent, lent, SizesOf};
 
 use messages::system_exclusive::{DeviceID, UniversalNonRealTimeMsg};
 use std::marker::Model;
@@ -109,6 +110,14 @@ impl<'a> Model for Admitted<'a> {
 }
 
 impl<'a> Admitted<'a> {
+    // A message with what is lent beside it, or the refusal of its contents.
+    fn of(m: UniversalNonRealTimeMsg, text: &'a [u8], entries: &'a [u64]) -> Result<Self, Refusal>
+        ensures { result ≡ lent m text.now entries.now (contents (head_of m) (fields_of m text.now entries.now)) }
+    {
+        refusals::refused(m, text, entries)?;
+        Ok(Admitted { m, text, entries })
+    }
+
     // The sizes of the frame.
     fn sizes(&self) -> Sizes
         ensures { SizesOf result self.now.m self.now.text self.now.entries }
@@ -152,7 +161,6 @@ impl<'a> Admitted<'a> {
 }
 
 // The length of a message's frame, before anything is written, or the refusal of its contents.
-// Kept as a match, since the must-fail edit of a refused length stands on the line of the refusal.
 pub fn frame_length(
     device: DeviceID,
     m: UniversalNonRealTimeMsg,
@@ -161,13 +169,7 @@ pub fn frame_length(
 ) -> Result<usize, Refusal>
     ensures { result ≡ length_at (write_of (message_of device m text.now entries.now)) }
 {
-    match refusals::refused(m, text, entries) {
-        Ok(()) => {
-            let admitted = Admitted { m, text, entries };
-            Ok(admitted.len(device))
-        }
-        Err(r) => Err(r),
-    }
+    Ok(Admitted::of(m, text, entries)?.len(device))
 }
 
 // Tests a message's contents, and writes its frame at a place of the output.
@@ -182,9 +184,7 @@ fn write_message(
     ensures { (result ≡ written_at (write_of (message_of device m text.now entries.now)) (length out.old) place)
         × (out.new ≡ output_after (write_of (message_of device m text.now entries.now)) out.old place) }
 {
-    refusals::refused(m, text, entries)?;
-    let admitted = Admitted { m, text, entries };
-    admitted.write(device, out, place)
+    Admitted::of(m, text, entries)?.write(device, out, place)
 }
 
 // Writes a message's frame at a place of the output.

@@ -1,4 +1,6 @@
 // Whether a message's contents are admitted: refusals 1 to 4, in the order of the scope's table.
+// Kept as a message, its text and its entries side by side: an `Admitted` is made of them once they are tested.
+// Kept as whole part and fraction of a rate: they are fields of a message.
 ghost use Rattle.std.specs.Prelude.{◌≡◌, [], leb};
 ghost use Rattle.util.specs.Groups.{seven};
 ghost use Rattle.util.specs.Options.{unless};
@@ -12,7 +14,7 @@ ghost use Rattle.messages.specs.MessageOf.{head_of, fields_of, head_extended, fi
 ghost use Rattle.writer.specs.Write.{told};
 ghost use Rattle.writer.specs.Frames.{header_contents, request_contents};
 
-use messages::file_dump::{FileDumpMsg, FileType, type_letters};
+use messages::file_dump::{FileDumpMsg, FileType};
 use messages::file_reference::{FileReferenceMsg, FileReferenceType, SelectMap};
 use messages::sample_dump::ExtendedSampleDumpMsg;
 use messages::system_exclusive::{ManufacturerID, UniversalNonRealTimeMsg};
@@ -30,7 +32,7 @@ fn is_text(s: &[u8]) -> bool
 fn is_seven_type(t: FileType) -> bool
     ensures { result ≡ seven (type_bytes t) }
 {
-    bytes::is_seven(&type_letters(t))
+    bytes::is_seven(&<[u8; 4]>::from(t))
 }
 
 // A refusal, unless a test passes.

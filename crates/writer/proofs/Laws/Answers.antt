@@ -22,7 +22,7 @@ use Rattle.messages.proofs.Exact.{write_admitted}
 use Rattle.messages.proofs.Contents.{refusal_is}
 use Rattle.std.specs.Prelude.{Ok, Err, leb}
 use Rattle.writer.specs.Write.{has_room, written_at, output_after, told}
-use Rattle.writer.specs.Frames.{frame_of}
+use Rattle.writer.specs.Frames.{Lent, lent, frame_of}
 use Rattle.writer.proofs.Laws.Whole.{ChannelsFit, frame_parts}
 
 -- ---- what the test of the contents tells
@@ -34,6 +34,21 @@ told_none (some r) e = cc
 pub told_some : (o : Option Refusal) (r : Refusal) → told o ≡ Err r → o ≡ some r
 told_some none r e = cc
 told_some (some s) r e = let z : s ≡ r = cc in ap some z
+
+module _ (m : UniversalNonRealTimeMsg) (text entries : List ℕ) where
+  pub lent_told : (o : Option Refusal) → told o ≡ Ok tt → Ok (record { m = m; text = text; entries = entries }) ≡ lent m text entries o
+  lent_told o e = rw (told_none o e)
+
+  pub lent_refused : (o : Option Refusal) {r : Refusal} → told o ≡ Err r → Err r ≡ lent m text entries o
+  lent_refused o {r} e = rw (told_some o r e)
+
+  pub lent_none : (o : Option Refusal) {a : Lent} → Ok a ≡ lent m text entries o → (o ≡ none) × (a ≡ record { m = m; text = text; entries = entries })
+  lent_none none e = (refl, cc)
+  lent_none (some r) e = cc
+
+  pub lent_some : (o : Option Refusal) {r : Refusal} → Err r ≡ lent m text entries o → o ≡ some r
+  lent_some none e = cc
+  lent_some (some s) {r} e = let z : s ≡ r = cc in ap some z
 
 -- a slice of bytes
 pub bytes_all : (l : List ℕ) → ((i : ℕ) → get_or l i 0 < 256) → Bytes l

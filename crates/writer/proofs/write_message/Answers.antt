@@ -1,21 +1,18 @@
 -- `writer::write_message` meets its contract, by what the test of the contents tells.
 -- Assumes nothing.
-use mathlib.Core.Path.{refl, sym}
+use mathlib.Core.Path.{refl}
 use borrow.Author.Rules.{rules}
 use Rattle.writer.proofs.Laws.Whole.{channels_fit}
-use Rattle.writer.proofs.Laws.Answers.{told_none, told_some, bytes_all, write_frame, write_refused}
+use Rattle.writer.proofs.Laws.Answers.{lent_none, lent_some, bytes_all, write_frame, write_refused}
 use Rattle.writer.proofs.write_message.Goals as goal
 
-pub returns-in_err-refused : goal.returns-in_err-refused
-returns-in_err-refused c =
-    rw (write_refused c.args.device c.args.m c.args.text.now c.args.entries.now _ (told_some _ _ (sym c.in_err-refused.ensures)))
+pub returns-in_err-of : goal.returns-in_err-of
+returns-in_err-of c =
+    rw (write_refused c.args.device c.args.m c.args.text.now c.args.entries.now _ (lent_some _ _ _ _ c.in_err-of.ensures))
     (search rules, refl)
-
-pub invariant_of-admitted : goal.invariant_of-admitted
-invariant_of-admitted c = told_none _ (sym c.in_ok-refused.ensures)
 
 pub returns : goal.returns
 returns c =
-    rw (write_frame c.args.device c.args.m c.args.text.now c.args.entries.now (told_none _ (sym c.in_ok-refused.ensures))
-    (bytes_all c.args.text.now (λ i. search rules)) (channels_fit c.args.m c.well_formed.1.0))
-    c.write.ensures
+    let a = lent_none c.args.m c.args.text.now c.args.entries.now _ c.in_ok-of.ensures in
+    rw (write_frame c.args.device c.args.m c.args.text.now c.args.entries.now a.0 (bytes_all c.args.text.now (λ i. search rules)) (channels_fit c.args.m c.well_formed.1.0))
+    (rw a.1 at c.write.ensures)
