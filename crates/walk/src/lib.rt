@@ -31,23 +31,8 @@ impl From<WalkError> for Refusal {
     }
 }
 
-// The first place from `from` on whose byte does not pass a test, or the end: the last bytes, one a turn.
-fn last_past<F: Fn(u8) -> bool>(s: &[u8], from: usize, passes: F) -> usize
-    requires within { from ≤ length s.now }
-    requires callable { F.IsAlwaysCallable passes }
-    ensures { (p : ℕ → Bool) → ((b : ℕ) (r : Bool) → F.post passes b r → r ≡ p b) → result ≡ from + prefix_len p (drop from s.now) }
-{
-    let mut i = from;
-    while i < s.len() {
-        if !passes(s[i]) {
-            return i;
-        }
-        i += 1;
-    }
-    i
-}
-
-// The same, four bytes a turn. Kept as loops: with `take_while` the walk over F0 alone and over F0 90 misses the bar wherever it is put (docs/SPEED.md).
+// The first place from `from` on whose byte does not pass a test, or the end.
+// Kept as a loop of four bytes a turn by index: `take_while` and chunks of four of the library were tried, and each misses the bar (docs/SPEED.md).
 fn past<F: Fn(u8) -> bool>(s: &[u8], from: usize, passes: F) -> usize
     requires within { from ≤ length s.now }
     requires callable { F.IsAlwaysCallable passes }
@@ -69,7 +54,7 @@ fn past<F: Fn(u8) -> bool>(s: &[u8], from: usize, passes: F) -> usize
         }
         i += 4;
     }
-    last_past(s, i, passes)
+    (i..s.len()).find(|k| !passes(s[*k])).unwrap_or(s.len())
 }
 
 // Puts a pair at place n of an index that has room for it.
@@ -187,7 +172,8 @@ fn stretch_from(stream: &[u8], at: usize) -> Option<(usize, usize)>
 }
 
 // Puts the pairs of the frames, as far as the index has room, and counts the frames.
-// Kept as a loop over what is found, one stretch a turn: it counts frames, and no place by hand.
+// Kept as a loop over what is found: it goes on behind each stretch, and an iterator of `from_fn` would do the same in a closure.
+// Kept as a kind and an index side by side: C has them so.
 fn list(stream: &[u8], kind: Kind, index: &mut [u32]) -> usize
     requires { length stream.now ≤ most_stream }
     ensures counted { result ≡ length (frames kind stream.now) }
