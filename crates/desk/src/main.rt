@@ -86,7 +86,7 @@ fn is_closed(rt: HostRuntime) -> bool {
 }
 
 fn main(rt: HostRuntime) {
-    let mut out = output::new(rt, Stream::Stderr);
+    let mut out = output::new(rt, Stream::Stderr as u8);
     if is_closed(rt) {
         return output::fail(&mut out);
     }

@@ -1,4 +1,5 @@
 // The commands of the desk: their words, and what each runs.
+// Kept as two parameters: an output and a line. Help, files and tunings take the output and no line, so that a struct of both would lend it on.
 #![tactic(auto)]
 
 pub mod help;

@@ -1,4 +1,5 @@
 // A frame as it stands, or the bytes of a file dump's packets, into a new file.
+// Kept beside one another: an output, a name, place, frame, piece or source, a kind, an index. Texts take the output alone, and the walk takes all but the output.
 ghost use Rattle.std.specs.Prelude.{◌≤◌, length};
 
 use super::joined::Joined;

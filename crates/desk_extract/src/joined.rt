@@ -1,4 +1,5 @@
 // The bytes of a file dump's packets, joined.
+// Kept as two parameters: an output and a target or a name. Numbers and texts take the output alone, which a struct of both would have to lend on.
 ghost use Rattle.std.specs.Prelude.{◌≡◌, ◌+◌, ◌%◌};
 ghost use Rattle.desk_extract.specs.Joined.{is_next};
 
@@ -15,7 +16,7 @@ pub enum End {
     Ended,
     Cut,
     Cancelled,
-    Missing(u8),
+    Missing(u64),
     Unwritten,
 }
 
@@ -24,19 +25,19 @@ pub enum End {
 pub struct Joined {
     pub total: u64,
     pub said: Option<u64>,
-    pub last: Option<u8>,
+    pub last: Option<u64>,
     pub end: Option<End>,
 }
 
 // The number of the packet behind another.
-fn next_number(last: u8) -> u8
+fn next_number(last: u64) -> u64
     ensures { result ≡ (last + 1) % 128 }
 {
     last.wrapping_add(1) % 128
 }
 
 // Whether a packet may follow the last one; any may be the first, or behind a number that no packet has.
-fn is_next(last: Option<u8>, number: u8) -> bool
+fn is_next(last: Option<u64>, number: u64) -> bool
     ensures { result ≡ is_next last number }
 {
     match last {
@@ -56,7 +57,7 @@ impl Joined {
     }
 
     // Writes a packet's bytes, where it is the next one; a packet that is sent again is passed over.
-    fn packet(&mut self, out: &mut Output, to: &mut Target, number: u8, data: &[u8]) {
+    fn packet(&mut self, out: &mut Output, to: &mut Target, number: u64, data: &[u8]) {
         if self.last == Some(number) {
             return;
         }
@@ -74,7 +75,12 @@ impl Joined {
     fn file(&mut self, out: &mut Output, to: &mut Target, m: FileDumpMsg, data: &[u8]) {
         match m {
             FileDumpMsg::Header { length, .. } => self.header(length as u64),
-            FileDumpMsg::Packet { running_count } => self.packet(out, to, running_count, data),
+            FileDumpMsg::Packet { running_count } => self.packet(
+                out,
+                to,
+                running_count as u64,
+                data,
+            ),
             FileDumpMsg::Request { .. } => {}
         }
     }
@@ -128,7 +134,7 @@ impl Joined {
         match self.end {
             Some(End::Missing(n)) => {
                 say(out, b"packet ");
-                number(out, n as u64);
+                number(out, n);
                 say(out, b" of the file dump is missing");
             }
             Some(End::Unwritten) => say(out, b"could not be written out"),

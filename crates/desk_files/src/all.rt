@@ -1,4 +1,5 @@
 // Every stretch that begins with F0: the frames, and what is none, with the reason.
+// Kept as two parameters: an output and a piece or a stretch. Numbers and texts take the output alone, which a struct of both would have to lend on.
 use super::frames;
 use super::frames::Part;
 use super::list::Tally;

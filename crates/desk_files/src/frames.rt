@@ -1,4 +1,5 @@
 // One stretch of bytes: where it ends, and its line.
+// Kept as two parameters: an output and a frame or a name. Digits, numbers and texts take the output alone, which a struct of both would have to lend on.
 ghost use Rattle.std.specs.Prelude.{◌≡◌, ◌+◌, ◌≤◌, min, length, take, drop};
 
 use desk_io::names;

@@ -1,4 +1,5 @@
 // The frames of a file, a line each.
+// Kept beside one another: an output, a name, a piece or a source, a kind, an index. Texts take the output alone, and the walk takes all but the output.
 use super::frames::Part;
 use super::{all, frames, sorts, walks};
 use desk_io::names::{complain_number, is_dash};

@@ -1,4 +1,5 @@
 // One message, every field a line.
+// Kept as two parameters: an output and a frame, place or source. Numbers and texts take the output alone, which a struct would have to lend on.
 ghost use Rattle.std.specs.Prelude.{◌≡◌, ◌≤◌, IfSome, length};
 
 use super::frames::Part;
@@ -96,6 +97,7 @@ fn show_frame(out: &mut Output, place: Place, stretch: &[u8], frame: &[u8], is_r
 }
 
 // Says that a message has a wrong sum.
+// Kept apart from `no_message`: each is one call, and they differ in its texts.
 fn tell_sum(out: &mut Output, place: Place) {
     complain_number(
         out,

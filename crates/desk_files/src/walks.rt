@@ -1,4 +1,5 @@
 // The pieces of an open file in turn, and the frames of a piece in turn.
+// Kept as two parameters: a kind and an index. Callers read each frame by the kind alone, and keep one index for all pieces of a file.
 ghost use Rattle.std.specs.Prelude.{◌≡◌, ◌≤◌, length, take};
 ghost use Rattle.std.specs.Result.{is_ok};
 ghost use Rattle.walk.specs.Answer.{after};

@@ -1,4 +1,5 @@
 // Output files: made where there is none, whole or not left. The name - is standard output.
+// Kept as two parameters, an output and a name of a file or a number of bytes: texts take the output alone.
 use super::names::is_dash;
 use desk_print::output::{Output, complain, runtime};
 use desk_print::{names, number, output, say};

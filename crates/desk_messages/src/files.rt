@@ -1,4 +1,5 @@
 // File dumps in words.
+// Kept as two parameters, an output and a style, as in the whole crate: texts take the output alone.
 use super::{Beside, system};
 use desk_print::fields::Style;
 use desk_print::output::Output;

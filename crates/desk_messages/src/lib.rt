@@ -32,17 +32,27 @@ pub struct Beside<'a> {
 
 // What a message is.
 pub fn message(out: &mut Output, style: Style, m: UniversalNonRealTimeMsg, beside: Beside) {
+    let Beside { text, places } = beside;
     match m {
-        UniversalNonRealTimeMsg::SampleDump(x) => samples::sample(out, style, x, beside.text),
-        UniversalNonRealTimeMsg::ExtendedSampleDump(x) => samples::extended(
-            out,
-            style,
-            x,
-            beside.text,
-        ),
+        UniversalNonRealTimeMsg::SampleDump(x) => samples::sample(out, style, x, text),
+        UniversalNonRealTimeMsg::ExtendedSampleDump(x) => samples::extended(out, style, x, text),
         UniversalNonRealTimeMsg::IdentityRequest => fields::title(out, style, b"identity request"),
         UniversalNonRealTimeMsg::IdentityReply(x) => system::identity(out, style, x),
         UniversalNonRealTimeMsg::FileDump(x) => files::file(out, style, x, beside),
+        UniversalNonRealTimeMsg::TuningBulkDumpRequest {
+            tuning_bank_num,
+            tuning_program_num,
+        } => tunings::request(out, style, tuning_bank_num, tuning_program_num),
+        UniversalNonRealTimeMsg::KeyBasedTuningDump(x) => tunings::key_dump(out, style, x, text),
+        UniversalNonRealTimeMsg::ScaleTuningDump1Byte(x) => tunings::scale_dump_1(
+            out, style, x, text,
+        ),
+        UniversalNonRealTimeMsg::ScaleTuningDump2Byte(x) => tunings::scale_dump_2(
+            out, style, x, text,
+        ),
+        UniversalNonRealTimeMsg::TuningNoteChange(x) => tunings::note_change(out, style, x, places),
+        UniversalNonRealTimeMsg::ScaleTuning1Byte(x) => tunings::scale_1(out, style, x),
+        UniversalNonRealTimeMsg::ScaleTuning2Byte(x) => tunings::scale_2(out, style, x),
         UniversalNonRealTimeMsg::GeneralMidi(x) => fields::title(out, style, x.words()),
         UniversalNonRealTimeMsg::FileReference(x) => references::reference(out, style, x, beside),
         UniversalNonRealTimeMsg::EOF => fields::title(out, style, b"end of file"),
@@ -55,6 +65,5 @@ pub fn message(out: &mut Output, style: Style, m: UniversalNonRealTimeMsg, besid
             packet,
         ),
         UniversalNonRealTimeMsg::ACK(packet) => handshake(out, style, b"received (ACK)", packet),
-        tuning => tunings::tuning(out, style, tuning, beside),
     }
 }

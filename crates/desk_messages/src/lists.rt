@@ -1,5 +1,6 @@
 // The lists of a message, a line for each entry: keys, note changes, maps, the twelve notes of a scale, file data.
-ghost use Rattle.std.specs.Prelude.{◌≡◌, ◌≤◌};
+// Kept as two parameters, an output and a style, as in the whole crate: texts take the output alone.
+ghost use Rattle.std.specs.Prelude.{◌≤◌};
 
 use desk_print::cents::Signed;
 use desk_print::fields::Style;
@@ -10,27 +11,20 @@ use messages::tuning::{KeyTuning, Tuning, tuning_of};
 use util::limits::KEYS;
 use util::signed;
 
-// A byte as a wider number.
-fn wide(x: u8) -> u64
-    ensures { result ≡ x }
-{
-    x as u64
-}
-
 // How far a tuning is from the key in equal temperament, in 16,384ths of a semitone.
 fn from_key(key: u8, t: Tuning) -> Signed
     ensures { result.amount ≤ 8388608 }
 {
     cents::difference(
-        wide(key) * 16384,
-        wide(t.semitone) * 16384 + t.fraction as u64,
+        u64::from(key) * 16384,
+        u64::from(t.semitone) * 16384 + t.fraction as u64,
     )
 }
 
 // Puts a tuning: its semitone, the cents above it, the difference from equal temperament.
 fn put_tuning(out: &mut Output, key: u8, t: Tuning) {
     say(out, b" semitone ");
-    number(out, wide(t.semitone));
+    number(out, u64::from(t.semitone));
     say(out, b" ");
     cents::decimals(
         out,
@@ -46,7 +40,7 @@ fn put_tuning(out: &mut Output, key: u8, t: Tuning) {
 
 // A line for a key: its number, its name, its tuning.
 fn key_line(out: &mut Output, key: u8, tuning: Option<Tuning>) {
-    number(out, wide(key));
+    number(out, u64::from(key));
     say(out, b" ");
     names::key(out, key);
     match tuning {
@@ -133,7 +127,7 @@ fn signed_2(v: i16) -> Signed
 }
 
 // A value of a scale or of a fine tuning, put in cents.
-pub(crate) trait InCents: Copy {
+trait InCents: Copy {
     fn put_cents(self, out: &mut Output);
 }
 
@@ -176,8 +170,20 @@ fn notes<V: InCents>(out: &mut Output, values: &[V]) {
 }
 
 // A line for each note of a scale, C first, where every field has a line.
-pub(crate) fn scale<V: InCents>(out: &mut Output, style: Style, values: &[V]) {
+fn scale<V: InCents>(out: &mut Output, style: Style, values: &[V]) {
     if let Style::Lines = style {
         notes(out, values);
     }
+}
+
+// Kept as a pair: a scale of one byte a note or of two, as midi-msg has a type for each; each is one call.
+
+// A line for each note of a scale of one byte a note.
+pub fn scale_1(out: &mut Output, style: Style, values: [i8; 12]) {
+    scale(out, style, &values);
+}
+
+// A line for each note of a scale of two bytes a note.
+pub fn scale_2(out: &mut Output, style: Style, values: [i16; 12]) {
+    scale(out, style, &values);
 }

@@ -1,4 +1,5 @@
 // File references in words.
+// Kept as two parameters, an output and a style, as in the whole crate: texts take the output alone.
 use super::words::Words;
 use super::{Beside, lists, words};
 use desk_print::fields;

@@ -1,4 +1,5 @@
 // Refusals in words, for a player.
+// Kept as two parameters, an output and a frame: texts take the output alone.
 use super::words::Words;
 use desk_print::output::Output;
 use desk_print::{hex, say};
@@ -41,9 +42,14 @@ impl Words for Refusal {
     }
 }
 
+// Puts why bytes are no frame.
+pub fn refusal(out: &mut Output, r: Refusal) {
+    say(out, r.words());
+}
+
 // Puts why a frame is refused; with its two sums where its sum is wrong.
 pub fn explain(out: &mut Output, frame: &[u8], r: Refusal) {
-    say(out, r.words());
+    refusal(out, r);
     if let Refusal::Sum = r {
         sums(out, frame);
     }

@@ -1,11 +1,13 @@
 // Tunings in words.
-use super::lists::InCents;
-use super::{Beside, lists};
+// Kept as two parameters, an output and a style, as in the whole crate: texts take the output alone.
+use super::lists;
 use desk_print::fields::Style;
 use desk_print::output::Output;
 use desk_print::{fields, number, say, units};
-use messages::system_exclusive::UniversalNonRealTimeMsg;
-use messages::tuning::{ChannelBitMap, KeyBasedTuningDump, TuningNoteChange};
+use messages::tuning::{
+    ChannelBitMap, KeyBasedTuningDump, ScaleTuning1Byte, ScaleTuning2Byte, ScaleTuningDump1Byte,
+    ScaleTuningDump2Byte, TuningNoteChange,
+};
 
 // The program of a tuning, behind its bank where there is one.
 fn bank_program(out: &mut Output, style: Style, bank: Option<u8>, program: u8) {
@@ -31,21 +33,28 @@ pub fn key_dump(out: &mut Output, style: Style, m: KeyBasedTuningDump, name: &[u
     fields::name(out, style, b"name", name);
 }
 
-// A scale dump in words: the bank, the program and the name, and a line for each note where every field has a line.
-fn scale_dump<V: InCents>(
-    out: &mut Output,
-    style: Style,
-    title: &[u8],
-    bank: u8,
-    program: u8,
-    name: &[u8],
-    values: &[V],
-) {
+// The bank, the program and the name of a scale.
+fn scale_head(out: &mut Output, style: Style, title: &[u8], bank: u8, program: u8, name: &[u8]) {
     fields::title(out, style, title);
     fields::first(out, style, b"bank", bank as u64);
     fields::named(out, style, b"program", program as u64);
     fields::name(out, style, b"name", name);
-    lists::scale(out, style, values);
+}
+
+// Kept as pairs, a dump or a scale of one byte a note or of two: midi-msg has a type for each, and each is two or three calls.
+
+// A scale dump of one byte a note in words.
+pub fn scale_dump_1(out: &mut Output, style: Style, m: ScaleTuningDump1Byte, name: &[u8]) {
+    let (bank, program) = (m.tuning_bank_num, m.tuning_program_num);
+    scale_head(out, style, b"scale", bank, program, name);
+    lists::scale_1(out, style, m.tuning);
+}
+
+// A scale dump of two bytes a note in words.
+pub fn scale_dump_2(out: &mut Output, style: Style, m: ScaleTuningDump2Byte, name: &[u8]) {
+    let (bank, program) = (m.tuning_bank_num, m.tuning_program_num);
+    scale_head(out, style, b"fine scale", bank, program, name);
+    lists::scale_2(out, style, m.tuning);
 }
 
 // A note change in words; it has so many entries.
@@ -80,65 +89,16 @@ fn channel_map(out: &mut Output, style: Style, m: ChannelBitMap) {
     fields::end(out, style);
 }
 
-// A scale for channels in words.
-fn scale<V: InCents>(
-    out: &mut Output,
-    style: Style,
-    title: &[u8],
-    channels: ChannelBitMap,
-    values: &[V],
-) {
-    fields::title(out, style, title);
-    channel_map(out, style, channels);
-    lists::scale(out, style, values);
+// A scale of one byte a note in words.
+pub fn scale_1(out: &mut Output, style: Style, m: ScaleTuning1Byte) {
+    fields::title(out, style, b"scale for channels");
+    channel_map(out, style, m.channels);
+    lists::scale_1(out, style, m.tuning);
 }
 
-// A dump of a scale of one or two bytes a note, or a scale for channels, in words; nothing for another message.
-fn scales(out: &mut Output, style: Style, m: UniversalNonRealTimeMsg, name: &[u8]) {
-    match m {
-        UniversalNonRealTimeMsg::ScaleTuningDump1Byte(x) => scale_dump(
-            out,
-            style,
-            b"scale",
-            x.tuning_bank_num,
-            x.tuning_program_num,
-            name,
-            &x.tuning,
-        ),
-        UniversalNonRealTimeMsg::ScaleTuningDump2Byte(x) => scale_dump(
-            out,
-            style,
-            b"fine scale",
-            x.tuning_bank_num,
-            x.tuning_program_num,
-            name,
-            &x.tuning,
-        ),
-        UniversalNonRealTimeMsg::ScaleTuning1Byte(x) => {
-            scale(out, style, b"scale for channels", x.channels, &x.tuning)
-        }
-        UniversalNonRealTimeMsg::ScaleTuning2Byte(x) => {
-            scale(
-                out,
-                style,
-                b"fine scale for channels",
-                x.channels,
-                &x.tuning,
-            )
-        }
-        _ => {}
-    }
-}
-
-// A message of tunings in words; nothing for another message.
-pub fn tuning(out: &mut Output, style: Style, m: UniversalNonRealTimeMsg, beside: Beside) {
-    match m {
-        UniversalNonRealTimeMsg::TuningBulkDumpRequest {
-            tuning_bank_num,
-            tuning_program_num,
-        } => request(out, style, tuning_bank_num, tuning_program_num),
-        UniversalNonRealTimeMsg::KeyBasedTuningDump(x) => key_dump(out, style, x, beside.text),
-        UniversalNonRealTimeMsg::TuningNoteChange(x) => note_change(out, style, x, beside.places),
-        _ => scales(out, style, m, beside.text),
-    }
+// A scale of two bytes a note in words.
+pub fn scale_2(out: &mut Output, style: Style, m: ScaleTuning2Byte) {
+    fields::title(out, style, b"fine scale for channels");
+    channel_map(out, style, m.channels);
+    lists::scale_2(out, style, m.tuning);
 }

@@ -1,6 +1,12 @@
 -- Standard output, gathered: what an output holds, and what putting a text to it means.
-use Rattle.std.specs.Prelude.{◌≡◌, Bool, true, false, List, [], ◌++◌, ℕ, ◌+◌, ◌≤◌, ◌<◌, length}
+use Rattle.std.specs.Prelude.{◌≡◌, Bool, true, false, List, [], ◌++◌, ℕ, ◌+◌, ◌≤◌, ◌<◌, eqb, length}
+use Rattle.util.specs.Pick.{pick}
 use Rattle.desk_print.specs.declared.output.Stream.{Stream}
+use Rattle.desk_print.specs.declared.output.Stream.TheVariants.{Stdout, Stderr}
+
+-- the open file of a number: 1 is standard output, any other standard error
+abbrev pub stream_of : ℕ → Stream
+stream_of n = pick (eqb n 1) Stdout Stderr
 
 -- the bytes that are gathered and not yet written out, whether a write has failed, and the file of error lines
 pub record Gathering : Type 0 where

@@ -1,4 +1,5 @@
 // Signed values in cents.
+// Kept as two parameters: an output and an amount. One output serves all that is put, so that a struct of both would be made for each.
 ghost use Rattle.std.specs.Prelude.{◌≡◌, ◌+◌, ◌-◌, ◌*◌, ◌/◌, ◌≤◌, ltb};
 ghost use Rattle.desk_print.specs.Output.{Put};
 ghost use Rattle.desk_print.specs.Text.{sign_of, signed, signed_decimals};

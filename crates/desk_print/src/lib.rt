@@ -1,4 +1,5 @@
 // Text and numbers on standard output; lines that say what went wrong.
+// Kept as two parameters: an output and a number or a text. One output serves all that is put, so that a struct of both would be made for each.
 #![tactic(auto)]
 
 pub mod cents;

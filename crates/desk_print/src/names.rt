@@ -1,4 +1,5 @@
 // Names in quotes, and the names of notes.
+// Kept as two parameters: an output and a name or a note. One output serves all that is put, so that a struct of both would be made for each.
 ghost use Rattle.std.specs.Prelude.{◌≡◌, [], ◌∷◌};
 ghost use Rattle.desk_print.specs.Output.{Put};
 ghost use Rattle.desk_print.specs.Text.{each, name_char, trimmed, in_quotes, is_control_of, path_char, path_of, note_name, key_name};

@@ -1,6 +1,7 @@
 // Standard output, gathered and written out in large pieces; error lines, each behind what was put before it.
+// Kept as two parameters: an output and a text. One output serves all that is put, so that a struct of both would be made for each.
 ghost use Rattle.std.specs.Prelude.{◌≡◌, [], ◌∷◌, ◌++◌, ◌≤◌, length};
-ghost use Rattle.desk_print.specs.Output.{Gathering, gathered, Sound, Fresh, Put, Failed, Tried, Flushed, Added};
+ghost use Rattle.desk_print.specs.Output.{Gathering, gathered, Sound, Fresh, Put, Failed, Tried, Flushed, Added, stream_of};
 ghost use Rattle.desk_print.specs.Text.{path_of};
 
 use super::{names, number, put};
@@ -14,8 +15,20 @@ pub const ROOM: usize = 65535;
 // An open file that text is written to.
 #[derive(Clone, Copy)]
 pub enum Stream {
-    Stdout,
-    Stderr,
+    Stdout = 1,
+    Stderr = 2,
+}
+
+impl From<u8> for Stream {
+    ghost from_gives = { λ n s. s ≡ stream_of n };
+
+    // The open file of a number: 1 is standard output, any other standard error.
+    fn from(n: u8) -> Stream {
+        match n {
+            1 => Stream::Stdout,
+            _ => Stream::Stderr,
+        }
+    }
 }
 
 // The gathered bytes, whether a write has failed, and where error lines go; beside them, which contracts do not see, stands the system, whose
@@ -37,15 +50,15 @@ impl Model for Output {
     ghost invariant = { λ o. length o.text.items ≤ 65535 };
 }
 
-// An output with nothing gathered; error lines go to an open file.
-pub fn new(rt: HostRuntime, errors: Stream) -> Output
+// An output with nothing gathered; error lines go to the open file of a number.
+pub fn new(rt: HostRuntime, errors: u8) -> Output
     ensures fresh { Fresh result }
-    ensures errors { result.errors ≡ errors }
+    ensures errors { result.errors ≡ stream_of errors }
 {
     Output {
         text: ArrayVec::new(),
         is_failed: false,
-        errors,
+        errors: Stream::from(errors),
         rt,
     }
 }

@@ -77,7 +77,7 @@ fn read_full(source: &mut Source, room: &mut [u8]) -> usize
 fn main(rt: HostRuntime) {
     let mut room = io::large_buffer();
     let n = read_full(&mut Source::Stdin(rt.stdin()), &mut room);
-    let mut out = output::new(rt, Stream::Stdout);
+    let mut out = output::new(rt, Stream::Stdout as u8);
     run_lines(&mut out, &room[..n]);
     output::flush(&mut out);
 }

@@ -22,6 +22,7 @@ fn with_digit(n: u64, b: u8) -> u64
 }
 
 // A number with so many digits more, those of bytes with zeros behind them, or the most.
+// Kept as a loop over places: each digit behind the last byte is a zero, which a chain of iterators would say no plainer.
 fn with_digits(n: u64, s: &[u8], count: usize) -> u64
     ensures { result ≡ min (value_after n (padded count s.now)) most }
 {

@@ -1,4 +1,5 @@
 // What is wrong with the lines of a tuning, the values of a scale, and the words of a command, told in error lines.
+// Kept as parameters side by side, an output beside a name or a number: texts take the output alone, which a struct of both would have to lend on.
 ghost use Rattle.desk_print.specs.Output.{Flushed};
 
 use super::keys::LinesError;

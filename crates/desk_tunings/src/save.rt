@@ -1,4 +1,5 @@
 // A key dump or a scale dump from the lines of an open file, as a new file.
+// Kept as parameters side by side, an output beside a name or a number: texts take the output alone, which a struct of both would have to lend on.
 ghost use Rattle.std.specs.Prelude.{◌≤◌, IfSome, length};
 
 use super::errors::{complain_lines, complain_values, is_name, seven};
@@ -91,6 +92,7 @@ pub fn tune(out: &mut Output, path: &[u8], program: &[u8], name: &[u8], input: &
 }
 
 // The scale dump of twelve values: of one byte a note where all are whole cents from -64 to 63, else of two.
+// Kept as a bank and a program: they are two fields of a message.
 fn scale_of(values: &[u64; 12], bank: u8, program: u8) -> UniversalNonRealTimeMsg {
     if scale::are_whole(values) {
         return UniversalNonRealTimeMsg::ScaleTuningDump1Byte(ScaleTuningDump1Byte {

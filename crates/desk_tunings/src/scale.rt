@@ -121,12 +121,7 @@ fn is_whole(v: u64) -> bool
 pub fn are_whole(values: &[u64]) -> bool
     ensures { result ≡ are_whole_values values.now }
 {
-    for v in values {
-        if !is_whole(*v) {
-            return false;
-        }
-    }
-    true
+    values.iter().all(|v| is_whole(*v))
 }
 
 // A value in whole cents, held to -64..63.

@@ -2,15 +2,13 @@
 -- Assumes nothing.
 use borrow.Author.Tests.{le-leb, lt-leb}
 use mathlib.Core.Path.{◌≡◌, refl, sym, ap, ◌∙◌}
-use mathlib.Core.Bool.{Bool, true, false, not, ◌&&◌, ◌||◌}
+use mathlib.Core.Bool.{Bool, true, false, not, ◌||◌}
 use mathlib.Core.Logic.{⊎_elim}
 use mathlib.Core.List.{List, [], ◌∷◌}
 use Prim.Native.Nat.{ℕ, zero, suc, ◌+◌, ◌≤◌, ◌<◌}
-use native.Mathlib.Numerals.{add-one}
 use native.Mathlib.Omega.{arith}
-use lib.ListN.{length, drop, get_or, set, length-drop, drop_of_length-le}
+use lib.ListN.{length, drop, get_or, set, length-drop}
 use lib.Dec.{eqb}
-use lib.Seq.{drop-cons}
 use Rattle.std.specs.Prelude.{Option, Some, None, Result, Ok, Err}
 use Rattle.util.specs.Pick.{pick}
 use Rattle.desk_text.specs.Spans.{is_line_end, is_blank, span}
@@ -20,7 +18,7 @@ use Rattle.desk_text.specs.Cents.{cents_of}
 use Rattle.desk_text.proofs.Laws.Digits.{either}
 use Rattle.desk_tunings.specs.declared.scale.ValuesError.{ValuesError}
 use Rattle.desk_tunings.specs.declared.scale.ValuesError.TheVariants.{TooMany}
-use Rattle.desk_tunings.specs.Scale.{Values, value_of, value_or, refused_as, value_answer, put_value, word_answer, word_values, good_values, counted_as, words_within, words_of, read_words, is_whole_value, are_whole_values}
+use Rattle.desk_tunings.specs.Scale.{Values, value_of, value_or, refused_as, value_answer, put_value, word_answer, word_values, good_values, counted_as, words_within, words_of, read_words}
 
 words_enough : (n m : ℕ) (t : List ℕ) → length t ≤ n → length t ≤ m → words_within n t ≡ words_within m t
 unfolding words_within
@@ -122,22 +120,6 @@ pub no_word : (t : List ℕ) (n : ℕ) (vs : List ℕ) (v : Values) → v ≡ co
 unfolding read_words words_of words_within
 no_word [] n vs v e h = rw e
 no_word (b ∷ t) n vs v e h = absurd (omega arith)
-
--- the values from a place on
-module _ (vs : List ℕ) (i : ℕ) where
-  pub whole_none : length vs ≤ i → true ≡ are_whole_values (drop i vs)
-  unfolding are_whole_values
-  whole_none h = rw (drop_of_length-le vs {i = i} h)
-
-  whole_turn : i < length vs → are_whole_values (drop i vs) ≡ is_whole_value (get_or vs i 0) && are_whole_values (drop (i + 1) vs)
-  unfolding are_whole_values
-  whole_turn h = rw (add-one, drop-cons vs i 0)
-
-  pub whole_stop : i < length vs → is_whole_value (get_or vs i 0) ≡ false → false ≡ are_whole_values (drop i vs)
-  whole_stop h e = sym (whole_turn h ∙ rw e)
-
-  pub whole_more : i < length vs → is_whole_value (get_or vs i 0) ≡ true → are_whole_values (drop (i + 1) vs) ≡ are_whole_values (drop i vs)
-  whole_more h e = sym (whole_turn h ∙ rw e)
 
 abbrev is_value : Result ℕ ValuesError → ℕ
 is_value (Ok v) = 1

@@ -1,18 +1,10 @@
--- `desk_tunings::scale::are_whole` meets its contract. The invariant: the values from the place on are whole where all are.
+-- `desk_tunings::scale::are_whole` meets its contract: the library's test of all values is that of the definition.
 -- Assumes nothing.
-use mathlib.Core.Path.{sym, ◌∙◌}
-use Rattle.desk_tunings.proofs.Laws.Words.{whole_none, whole_stop, whole_more}
+use Rattle.std.proofs.Common.{refl, rules}
+use Rattle.std.proofs.lemmas.List.Recursion.{and_is}
+use Rattle.desk_tunings.specs.Scale.{is_whole_value, are_whole_values}
 use Rattle.desk_tunings.proofs.scale.are_whole.Goals as goal
 
-pub returns-then-not-is_whole : goal.returns-then-not-is_whole
-returns-then-not-is_whole c =
-    let l = c.loop-v in
-    whole_stop c.args.values.now l.v-index c.loop-v-test.true (sym c.is_whole.ensures ∙ c.if-not-is_whole.true) ∙ l.invariant
-
-pub loop-v-preserved : goal.loop-v-preserved
-loop-v-preserved c =
-    let l = c.loop-v in
-    whole_more c.args.values.now l.v-index c.loop-v-test.true (sym c.is_whole.ensures ∙ c.if-not-is_whole.false) ∙ l.invariant
-
 pub returns : goal.returns
-returns c = whole_none c.args.values.now c.loop-v.v-index c.loop-v-test.false ∙ c.loop-v.invariant
+unfolding are_whole_values
+returns c = and_is are_whole_values is_whole_value refl (λ _ _. refl) c.args.values.now 0 _ (search rules) (search rules)
