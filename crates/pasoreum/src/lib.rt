@@ -1,4 +1,5 @@
 // What programs outside link: each function takes numbers and slices, and answers the number of a refusal, 0 where nothing is refused.
+// Kept as numbers and slices side by side: C has them so.
 #![tactic(auto)]
 
 mod identity;

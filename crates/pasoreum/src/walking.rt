@@ -1,4 +1,5 @@
 // The walk, its answer in numbers.
+// Kept as a kind and an index side by side: C has them so.
 ghost use Rattle.std.specs.Prelude.{◌≡◌, Err};
 ghost use Rattle.walk.specs.Answer.{walked_number, walked_value, answer, after};
 

@@ -1,4 +1,5 @@
 // One file: it is read in pieces into a buffer, and each of its cases is replayed.
+// Kept as a source and a buffer side by side, as in desk_io.
 use desk_io::pieces;
 use desk_io::pieces::{Piece, Source, sum};
 use replay_vectors::cases;

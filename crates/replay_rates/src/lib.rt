@@ -1,4 +1,5 @@
 // Op 5: cents. Op 6: a rate split. Op 7: a rate joined.
+// Kept as two numbers, whole part and fraction: a case has them so.
 #![tactic(auto)]
 
 ghost use Rattle.std.specs.Prelude.{◌≡◌, true, false, from_bits};

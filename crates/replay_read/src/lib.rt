@@ -1,4 +1,5 @@
 // Op 2: a frame is read with lent space. Op 4: identity bytes are read.
+// Kept as parameters side by side, as the functions have them that are replayed.
 #![tactic(auto)]
 
 ghost use Rattle.std.specs.Prelude.{◌≡◌, ◌<◌, true, length, take, MatchResult};

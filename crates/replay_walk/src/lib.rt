@@ -1,4 +1,5 @@
 // Op 3: a stream is walked with an index. Op 65: all short streams of a length are.
+// Kept as parameters side by side, as the functions have them that are replayed.
 #![tactic(auto)]
 
 mod short;

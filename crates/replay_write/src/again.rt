@@ -1,4 +1,5 @@
 // A frame is read, and its message is written again.
+// Kept as parameters side by side, as the functions have them that are replayed.
 use messages::file_reference::Kind;
 use messages::system_exclusive::{DeviceID, UniversalNonRealTimeMsg};
 use util::bytes::sub_slice;
@@ -24,6 +25,7 @@ fn has_data(frame: &[u8]) -> bool {
 }
 
 // Reads a frame and writes its message again: whether that gives the same bytes.
+// Kept: no equality of two values, it reads and writes one frame.
 pub fn is_same(frame: &[u8], kind: Kind) -> Result<bool, Refusal> {
     let mut data = [0u8; KEYS];
     let mut entries = [0u64; KEYS];

@@ -1,4 +1,5 @@
 // Op 1: a message is written, and what was written is read and written again. Op 64: the stretches of a file are. Op 66: as op 1, from map records.
+// Kept as parameters side by side, as the functions have them that are replayed.
 #![tactic(auto)]
 
 mod again;
