@@ -7,7 +7,7 @@ use desk_io::pieces;
 use desk_print::output::Output;
 use desk_print::{number, say};
 use messages::file_reference::Kind;
-use util::groups::at;
+use util::bytes::sub_slice;
 
 // The line of a stretch that ends without F7.
 fn unended(out: &mut Output, stretch: Part, why: &[u8]) {
@@ -41,6 +41,8 @@ fn ended(out: &mut Output, stretch: Part, kind: Kind, tally: &mut Tally) {
 }
 
 // The line of the stretch from the F0 at a place of a piece on.
+// Kept out of line: inlined, its slices were reckoned at each byte of a piece, and a list of all took 1.6 times as long (docs/LOOK-BACK.md).
+#[inline(never)]
 fn stretch(out: &mut Output, piece: Part, place: usize, kind: Kind, tally: &mut Tally) {
     let size = piece.bytes.len();
     let from = piece.part(place, size);
@@ -61,8 +63,8 @@ fn stretch(out: &mut Output, piece: Part, place: usize, kind: Kind, tally: &mut 
 
 // The lines of the stretches of a piece that begin before the next piece.
 pub fn list_stretches(out: &mut Output, piece: Part, kind: Kind, tally: &mut Tally) {
-    let next = pieces::next_start(piece.bytes.len());
-    for (place, b) in piece.bytes.iter().enumerate().take(next) {
+    let before = sub_slice(piece.bytes, 0, pieces::next_start(piece.bytes.len()));
+    for (place, b) in before.iter().enumerate() {
         if *b == 0xF0 {
             stretch(out, piece, place, kind, tally);
         }

@@ -180,16 +180,27 @@ fn put_name(out: &mut Output, path: &[u8], is_named: bool) {
     }
 }
 
+// Lists an open file in room of its own, and adds its tally to that of all.
+// Kept apart from `list`: there the room was cleared a second time, also where no file was opened (docs/LOOK-BACK.md).
+fn list_source(
+    out: &mut Output,
+    source: &mut Source,
+    path: &[u8],
+    wanted: Wanted,
+    total: &mut Tally,
+) {
+    let mut room = io::large_buffer();
+    if let Err(why) = list_open(out, source, path, wanted, &mut room[0..PIECE], total) {
+        pieces::unreadable(out, path, why);
+    }
+}
+
 // Lists the frames of a file, behind its name where it is one of several, and adds its tally to that of all.
 pub fn list(out: &mut Output, path: &[u8], wanted: Wanted, is_named: bool, total: &mut Tally) {
     let Some(mut source) = pieces::open(out, path) else {
         return;
     };
     put_name(out, path, is_named);
-    let mut room = io::large_buffer();
-    let read = list_open(out, &mut source, path, wanted, &mut room[0..PIECE], total);
-    if let Err(why) = read {
-        pieces::unreadable(out, path, why);
-    }
+    list_source(out, &mut source, path, wanted, total);
     pieces::close(source);
 }

@@ -11,6 +11,7 @@ use desk_io::pieces;
 use desk_io::pieces::Source;
 use desk_print::output::{Output, Stream, runtime};
 use desk_print::{output, say};
+use split::{Words, split};
 
 // Runs the first n words; lines are read from a file.
 fn run_with(out: &mut Output, w: &[u8], n: usize, path: &[u8]) {
@@ -37,7 +38,9 @@ fn run_line(out: &mut Output, line: &[u8]) {
     say(out, b"$ desk ");
     say(out, line);
     say(out, b"\n");
-    run_words(out, split::split(line).as_slice());
+    let mut words = Words::new();
+    split(line, &mut words);
+    run_words(out, words.as_slice());
 }
 
 // The end of the line that begins at a place.

@@ -9,9 +9,8 @@ fn put(words: &mut Words, b: u8) {
     let _ = words.try_push(b);
 }
 
-// The words of a line: a space ends one, but between double quotes.
-pub fn split(line: &[u8]) -> Words {
-    let mut words = Words::new();
+// Puts the words of a line: a space ends one, but between double quotes. They go to words that the caller has: handed back, they were copied for each line.
+pub fn split(line: &[u8], words: &mut Words) {
     let mut is_word = false;
     let mut is_quoted = false;
     for b in line {
@@ -20,14 +19,13 @@ pub fn split(line: &[u8]) -> Words {
             is_quoted = !is_quoted;
         } else if *b != b' ' || is_quoted {
             is_word = true;
-            put(&mut words, *b);
+            put(words, *b);
         } else if is_word {
             is_word = false;
-            put(&mut words, 0);
+            put(words, 0);
         }
     }
     if is_word {
-        put(&mut words, 0);
+        put(words, 0);
     }
-    words
 }

@@ -4,8 +4,8 @@ ghost use Rattle.numbers_to_message.specs.Values.{signed};
 ghost use Rattle.numbers_to_message.specs.Fits.{fit, fits, is_some};
 
 use crate::number::{
-    bank_of, device_of, extended_loop_type_of, file_type_of, flag_of, i8_of, i16_of, loop_of,
-    loop_type_of, reference_type_of, u8_of, u16_of, u32_of,
+    bank_of, device_of, extended_loop_type_of, flag_of, i8_of, i16_of, loop_of, loop_type_of,
+    reference_type_of, u8_of, u16_of, u32_of,
 };
 use messages::sample_dump::LoopNumber;
 
@@ -64,7 +64,8 @@ pub fn fits_type(t: NumberType, x: u64) -> bool
         NumberType::TransmittedLoop => loop_of(x, LoopNumber::DeleteAll).is_some(),
         NumberType::LoopType => loop_type_of(x).is_some(),
         NumberType::ExtendedLoopType => extended_loop_type_of(x).is_some(),
-        NumberType::FileType => file_type_of(x).is_some(),
+        // Kept as the number alone: its letters, which any number of 32 bits has, would be spelled for the test and again for the message.
+        NumberType::FileType => u32_of(x).is_some(),
         NumberType::ReferenceType => reference_type_of(x).is_some(),
         NumberType::BankOrNone => bank_of(x).is_some(),
         NumberType::Zero => x == 0,

@@ -3,11 +3,11 @@ ghost use Rattle.std.specs.Prelude.{◌≡◌};
 ghost use Rattle.read_file_dump.specs.Places.{type_at};
 
 use messages::file_dump::FileType;
-use read_places::fields::Fields;
+use util::groups::u7_at;
 
 // The type whose four letters stand at 1.
-pub fn type_at(f: &Fields) -> FileType
+pub fn type_at(f: &[u8]) -> FileType
     ensures { result ≡ type_at f.now 1 }
 {
-    FileType::from([f.u7_at(1), f.u7_at(2), f.u7_at(3), f.u7_at(4)])
+    FileType::from([u7_at(f, 1), u7_at(f, 2), u7_at(f, 3), u7_at(f, 4)])
 }

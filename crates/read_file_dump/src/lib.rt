@@ -28,7 +28,7 @@ pub fn header(f: &Fields) -> Option<Found>
     }
     let header = FileDumpMsg::Header {
         sender_device: DeviceID::from(f.u7_at(0)),
-        file_type: fields::type_at(f),
+        file_type: fields::type_at(f.bytes),
         length: f.u28_at(5),
     };
     Some(Found {
@@ -48,7 +48,7 @@ pub fn request(f: &Fields) -> Option<Found>
     }
     let request = FileDumpMsg::Request {
         requester_device: DeviceID::from(f.u7_at(0)),
-        file_type: fields::type_at(f),
+        file_type: fields::type_at(f.bytes),
     };
     Some(Found {
         from: 5,

@@ -26,4 +26,5 @@ pub record CaseIn (c : Case) (s rest : List ℕ) : Type 0 where
   pub entries_in : NumbersIn c.entries.now (drop 2 behind_text) behind_entries
   pub out_numbers_in : NumbersIn c.out_numbers.now (drop 10 behind_entries) behind_out_numbers
   pub bytes_in : TextIn c.bytes.now behind_out_numbers behind_bytes
+  pub out_entries_counted : 4 ≤ length behind_bytes
   pub out_entries_in : NumbersIn c.out_entries.now (drop 4 behind_bytes) rest

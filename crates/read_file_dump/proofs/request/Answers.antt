@@ -1,14 +1,17 @@
 -- `read_file_dump::request` meets its contract: the name is what follows its 5 bytes, at most 1,024.
 -- Assumes nothing.
-use mathlib.Core.Path.{refl}
+use mathlib.Core.Path.{refl, ap, ◌∙◌}
+use mathlib.Core.List.{List}
+use Prim.Native.Nat.{ℕ}
 use native.Mathlib.Omega.{arith}
 use Rattle.messages.specs.declared.head.Head.TheVariants as head
 use Rattle.read_places.proofs.Laws.Answers.{reads_found}
+use Rattle.read_file_dump.specs.Places.{type_at}
 use Rattle.read_file_dump.proofs.Laws.Fields.{request_reads}
 use Rattle.read_file_dump.proofs.request.Goals as goal
 
 pub returns : goal.returns
 returns c =
     let f = c.args.f.now in
-    rw (c.numbers.ensures, c.type_at.ensures, c.from.ensures, c.u7_at.ensures, c.len-size.ensures.size)
+    rw (c.numbers.ensures, c.type_at.ensures ∙ ap (λ (l : List ℕ). type_at l 1) c.f.view_is, c.from.ensures, c.u7_at.ensures, c.len-size.ensures.size)
     (reads_found head.FileDumpRequest f _ _ (λ d. refl) (omega arith, omega arith, omega arith, refl) (refl, refl) (request_reads f c.len-size.ensures.seven (omega arith) (omega arith)))

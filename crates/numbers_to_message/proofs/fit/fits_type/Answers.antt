@@ -1,13 +1,21 @@
 -- `numbers_to_message::fit::fits_type` meets its contract: each arm is whether the number says a value of its type.
 -- Assumes nothing.
-use mathlib.Core.Path.{refl, ap, ◌∙◌}
+use mathlib.Core.Path.{◌≡◌, refl, ap, ◌∙◌}
+use mathlib.Core.Option.{Option, none, some}
 use lib.Dec.{eqb}
+use Rattle.util.specs.Options.{map_option}
 use Rattle.std.specs.Prelude as std
 use Rattle.numbers_to_message.specs.declared.fit.NumberType.TheVariants.{U8, U16, U32, I8, I16, Flag, Device, RequestedLoop, TransmittedLoop, LoopType, ExtendedLoopType, FileType, ReferenceType, BankOrNone}
-use Rattle.numbers_to_message.specs.Values.{value}
+use Rattle.numbers_to_message.specs.Values.{value, spelled}
+use Rattle.numbers_to_message.specs.Fits.{is_some}
 use Rattle.numbers_to_message.proofs.Laws.{fit_as, pick_some}
 use Rattle.numbers_to_message.proofs.Options.{some_is}
 use Rattle.numbers_to_message.proofs.fit.fits_type.Goals as goal
+
+-- a number is that of a file type where it has 32 bits
+as_wide : {A B : Type 0} (f : A → B) (o : Option A) → is_some o ≡ is_some (map_option f o)
+as_wide f none = refl
+as_wide f (some a) = refl
 
 pub returns-in-U8 : goal.returns-in-U8
 returns-in-U8 c = fit_as c.args.x c.in-U8.is (c.is_some.ensures ∙ ap std.is_some c.u8_of.ensures ∙ some_is (value U8 c.args.x))
@@ -43,7 +51,8 @@ pub returns-in-ExtendedLoopType : goal.returns-in-ExtendedLoopType
 returns-in-ExtendedLoopType c = fit_as c.args.x c.in-ExtendedLoopType.is (c.is_some-in-ExtendedLoopType.ensures ∙ ap std.is_some c.extended_loop_type_of.ensures ∙ some_is (value ExtendedLoopType c.args.x))
 
 pub returns-in-FileType : goal.returns-in-FileType
-returns-in-FileType c = fit_as c.args.x c.in-FileType.is (c.is_some-in-FileType.ensures ∙ ap std.is_some c.file_type_of.ensures ∙ some_is (value FileType c.args.x))
+returns-in-FileType c =
+    fit_as c.args.x c.in-FileType.is (c.is_some-in-FileType.ensures ∙ ap std.is_some c.u32_of-in-FileType.ensures ∙ some_is (value U32 c.args.x) ∙ as_wide spelled (value U32 c.args.x))
 
 pub returns-in-ReferenceType : goal.returns-in-ReferenceType
 returns-in-ReferenceType c = fit_as c.args.x c.in-ReferenceType.is (c.is_some-in-ReferenceType.ensures ∙ ap std.is_some c.reference_type_of.ensures ∙ some_is (value ReferenceType c.args.x))

@@ -3,6 +3,7 @@
 use mathlib.Core.Path.{◌≡◌, subst}
 use mathlib.Core.List.{List}
 use Prim.Native.Nat.{ℕ}
+use native.Mathlib.Omega.{arith}
 use Rattle.std.specs.Prelude.{Option, Some, None}
 use Rattle.util.specs.Groups.{Seven}
 use Rattle.read_file_reference.specs.Texts.{Ends}
@@ -22,10 +23,10 @@ pub returns-then-length-gt-MOST_URL : goal.returns-then-length-gt-MOST_URL
 returns-then-length-gt-MOST_URL c =
     let f = c.f.inside.bytes.now in
     of_fields f c.args.f.now c.args.start None c.f.view_is c.f.invariant
-    (url_over f c.args.start c.f.invariant c.in_ok-length.length c.in_ok-length.ensures c.if-length-gt-MOST_URL.true)
+    (url_over f c.args.start c.f.invariant c.in_ok-length.length c.in_ok-length.ensures (omega (arith, c.if-length-gt-MOST_URL.true)))
 
 pub returns : goal.returns
 returns c =
     let f = c.f.inside.bytes.now in
     of_fields f c.args.f.now c.args.start (Some c.in_ok-length.length) c.f.view_is c.f.invariant
-    (url_ends f c.args.start c.in_ok-length.length c.in_ok-length.ensures c.if-length-gt-MOST_URL.false)
+    (url_ends f c.args.start c.in_ok-length.length c.in_ok-length.ensures (omega (arith, c.if-length-gt-MOST_URL.false)))

@@ -27,6 +27,7 @@ returns-clause-parts c =
       entries_in = rw (← b) c.in_ok-entries.ensures;
       out_numbers_in = rw (← d) c.in_ok-out_numbers.ensures;
       bytes_in = c.in_ok-bytes.ensures;
+      out_entries_counted = omega (arith, c.in_ok-count-4.ensures.cases.2);
       out_entries_in = rw (← e) c.in_ok-out_entries.ensures;
     }
 

@@ -17,7 +17,7 @@ pub returns : goal.returns
 returns g c =
     let l = c.loop-b in
     let n = length-take-le g.row.N c.args.out.now c.requires.room in
-    let e : c.min-rest.result ≡ held g.row.N c.args.v = c.min-rest.ensures ∙ ap (λ (x : ℕ). min c.args.v (x - 1)) (shift_is g.row.N c.requires.few) in
+    let e : c.hold-rest.result ≡ held g.row.N c.args.v = c.hold-rest.ensures ∙ ap (λ (x : ℕ). min c.args.v (x - 1)) (shift_is g.row.N c.requires.few) in
     let z : g.row.N - l.b-index ≡ 0 = omega arith in
     let t : take l.b-index l.b-items ≡ l.b-items = take_all l.b-index l.b-items (omega arith) in
     let i : l.b-items ≡ groups g.row.N (held g.row.N c.args.v) =
