@@ -61,7 +61,10 @@ fn key_at(s: &[u64], i: usize) -> u64
     requires { i < 128 }
     ensures { result ≡ get_or s.now i (i * 65536) }
 {
-    s.get(i).copied().unwrap_or(i as u64 * 65536)
+    match s.get(i) {
+        Some(e) => *e,
+        None => i as u64 * 65536,
+    }
 }
 
 // Writes the tunings of 128 keys.
